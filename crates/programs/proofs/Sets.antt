@@ -1,0 +1,108 @@
+-- Sets of literals, closed sets and smallest ones.
+use mathlib.Core.Path.{_≡_, refl, sym, ap, ap₂, _∙_, subst}
+use mathlib.Core.Logic.{_⊎_, inl, inr}
+use mathlib.Core.Bool.{Bool, true, false, cond}
+use Prim.Native.Nat.{ℕ, _+_, _-_, _*_, _%_, _^_, _<_, _≤_}
+use native.Mathlib.Omega.{arith}
+use lib.Bits.{bitAnd, bitOr}
+use Rattle.std.proofs.shelf.Tests.{true≢false, false≢true}
+use Rattle.std.proofs.shelf.Bits.{one-shl}
+use Rattle.programs.specs.declared.literal.Literal.{Literal}
+use Rattle.programs.specs.declared.literal.LiteralSet.{LiteralSet}
+use Rattle.programs.specs.Literals.{bit, Member, Subset, Below, TrueIn, AllTrue, Interpretation, literals-of, LiteralsOfAreTheTrueOnes}
+use Rattle.programs.specs.Steps.{Added}
+use Rattle.programs.proofs.Bits.{Within, Apart, bit-none, bit-lt, or-one, or-keeps, or-within, or-at-least, within-both, bit-place, complement-bit, interpretation-below, bit-high}
+
+pub same-set : (X Y : LiteralSet) → X .positive ≡ Y .positive → X .negative ≡ Y .negative → X ≡ Y
+same-set X Y p q = ap₂ (λ (a b : ℕ). record { positive = a; negative = b }) p q
+
+-- a subset, word by word
+pub positive-within : (X Y : LiteralSet) → Subset X Y → Within (X .positive) (Y .positive)
+positive-within X Y s i h = s (record { atom = i; negative = false }) h
+
+pub negative-within : (X Y : LiteralSet) → Subset X Y → Within (X .negative) (Y .negative)
+negative-within X Y s i h = s (record { atom = i; negative = true }) h
+
+either-side : (X Y : LiteralSet) → Within (X .positive) (Y .positive) → Within (X .negative) (Y .negative) → (b : Bool) (i : ℕ) → bit (cond b (X .negative) (X .positive)) i ≡ 1 → bit (cond b (Y .negative) (Y .positive)) i ≡ 1
+either-side X Y p n true i h = n i h
+either-side X Y p n false i h = p i h
+
+pub subset-of : (X Y : LiteralSet) → Within (X .positive) (Y .positive) → Within (X .negative) (Y .negative) → Subset X Y
+subset-of X Y p n l h = either-side X Y p n (l .negative) (l .atom) h
+
+pub subset-both : (X Y : LiteralSet) → Subset X Y → Subset Y X → X ≡ Y
+subset-both X Y a b =
+    same-set X Y
+      (within-both (X .positive) (Y .positive) (positive-within X Y a) (positive-within Y X b))
+      (within-both (X .negative) (Y .negative) (negative-within X Y a) (negative-within Y X b))
+
+pub empty-subset : (Y : LiteralSet) → Subset (record { positive = 0; negative = 0 }) Y
+empty-subset Y = subset-of (record { positive = 0; negative = 0 }) Y (λ i h. omega (arith, bit-none i)) (λ i h. omega (arith, bit-none i))
+
+-- a set that is true in w, word by word
+pub positive-true : (X : LiteralSet) (w : ℕ) → AllTrue X w → Within (X .positive) w
+positive-true X w h i e = h (record { atom = i; negative = false }) e
+
+pub negative-true : (X : LiteralSet) (w : ℕ) → AllTrue X w → Apart (X .negative) w
+negative-true X w h i e = h (record { atom = i; negative = true }) e
+
+either-true : (X : LiteralSet) (w : ℕ) → Within (X .positive) w → Apart (X .negative) w → (b : Bool) (i : ℕ) → bit (cond b (X .negative) (X .positive)) i ≡ 1 → bit w i ≡ cond b 0 1
+either-true X w p n true i h = n i h
+either-true X w p n false i h = p i h
+
+pub true-of : (X : LiteralSet) (w : ℕ) → Within (X .positive) w → Apart (X .negative) w → AllTrue X w
+true-of X w p n l h = either-true X w p n (l .negative) (l .atom) h
+
+-- one literal more
+added-negative : (X : LiteralSet) (k : ℕ) → Added X (record { atom = k; negative = true }) (record { positive = X .positive; negative = bitOr (X .negative) (2 ^ k) })
+added-negative X k = record {
+  has = or-one (X .negative) k;
+  kept = subset-of X (record { positive = X .positive; negative = bitOr (X .negative) (2 ^ k) }) (λ i h. h) (or-keeps (X .negative) k);
+  within = λ Y s m. subset-of (record { positive = X .positive; negative = bitOr (X .negative) (2 ^ k) }) Y (positive-within X Y s) (or-within (X .negative) (Y .negative) k (negative-within X Y s) m);
+  positive = omega arith;
+  negative = or-at-least (X .negative) (2 ^ k);
+}
+
+added-positive : (X : LiteralSet) (k : ℕ) → Added X (record { atom = k; negative = false }) (record { positive = bitOr (X .positive) (2 ^ k); negative = X .negative })
+added-positive X k = record {
+  has = or-one (X .positive) k;
+  kept = subset-of X (record { positive = bitOr (X .positive) (2 ^ k); negative = X .negative }) (or-keeps (X .positive) k) (λ i h. h);
+  within = λ Y s m. subset-of (record { positive = bitOr (X .positive) (2 ^ k); negative = X .negative }) Y (or-within (X .positive) (Y .positive) k (positive-within X Y s) m) (negative-within X Y s);
+  positive = or-at-least (X .positive) (2 ^ k);
+  negative = omega arith;
+}
+
+pub with-negative : (X : LiteralSet) (k : ℕ) (b : Bool) → b ≡ true → k < 64 → Added X (record { atom = k; negative = b }) (record { positive = X .positive; negative = bitOr (X .negative) ((1 * 2 ^ k) % 2 ^ 64) })
+with-negative X k true e h = rw (one-shl k 64 h) (added-negative X k)
+with-negative X k false e h = absurd (false≢true e)
+
+pub with-positive : (X : LiteralSet) (k : ℕ) (b : Bool) → b ≡ false → k < 64 → Added X (record { atom = k; negative = b }) (record { positive = bitOr (X .positive) ((1 * 2 ^ k) % 2 ^ 64); negative = X .negative })
+with-positive X k true e h = absurd (true≢false e)
+with-positive X k false e h = rw (one-shl k 64 h) (added-positive X k)
+
+-- the two words of an interpretation
+complement-below : (n w : ℕ) → w < 2 ^ n → 2 ^ n - 1 - w < 2 ^ n
+complement-below n w h = omega arith
+
+of-side : (n w : ℕ) → w < 2 ^ n → (b : Bool) (i : ℕ) → bit (cond b (2 ^ n - 1 - w) w) i ≡ 1 → (i < n) × (bit w i ≡ cond b 0 1)
+of-side n w h true i e =
+    let l = bit-place (2 ^ n - 1 - w) n i (complement-below n w h) e in
+    (l, omega (arith, complement-bit n w i h l))
+of-side n w h false i e = (bit-place w n i h e, e)
+
+on-side : (n w : ℕ) → w < 2 ^ n → (b : Bool) (i : ℕ) → i < n → bit w i ≡ cond b 0 1 → bit (cond b (2 ^ n - 1 - w) w) i ≡ 1
+on-side n w h true i l e = omega (arith, complement-bit n w i h l)
+on-side n w h false i l e = e
+
+pub literals-of-true : (n w : ℕ) → Interpretation n w → LiteralsOfAreTheTrueOnes n w
+literals-of-true n w h l =
+    let b = interpretation-below n w h in
+    (λ e. of-side n w b (l .negative) (l .atom) e, λ e. on-side n w b (l .negative) (l .atom) (e .0) (e .1))
+
+-- a set by its words: each is below 2 ^ n
+below-side : (X : LiteralSet) (n : ℕ) → X .positive < 2 ^ n → X .negative < 2 ^ n → (b : Bool) (i : ℕ) → bit (cond b (X .negative) (X .positive)) i ≡ 1 → i < n
+below-side X n p q true i h = bit-place (X .negative) n i q h
+below-side X n p q false i h = bit-place (X .positive) n i p h
+
+pub below-of : (X : LiteralSet) (n : ℕ) → X .positive < 2 ^ n → X .negative < 2 ^ n → Below n X
+below-of X n p q l h = below-side X n p q (l .negative) (l .atom) h
