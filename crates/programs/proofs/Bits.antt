@@ -5,6 +5,7 @@ use Prim.Native.Nat.{ℕ, zero, suc, _+_, _-_, _*_, _/_, _%_, _^_, _<_, _≤_, m
 use native.Mathlib.Nat.{div-eq-of-lt, zero-div, div-one, div-self, div-div-eq-div-mul, pow-succ', two-pow-succ}
 use native.Mathlib.Omega.{arith}
 use lib.Bits.{bitAnd, bitOr, or-step, and-step, or-shr, and-shr, or-add-and, and-le-r}
+use lib.Count.{ones, ones-step}
 use lib.Pow.{pow-pos, pow-mono}
 use Rattle.std.proofs.shelf.Tests.{cases-eq, cases-lt}
 use Rattle.std.proofs.shelf.Bits.{shr-split, mod-below, and-mask}
@@ -181,3 +182,23 @@ shifts-out n w h = div-eq-of-lt h
 pub bit-test : (x i : ℕ) → bitAnd (x / 2 ^ i) 1 ≡ bit x i
 unfolding bit
 bit-test x i = and-mask (x / 2 ^ i) 1
+
+-- a word has at least as many bits as one that it holds, and more unless they are one
+pub ones-within : (n x y : ℕ) → x < 2 ^ n → y < 2 ^ n → Within x y → ones x ≤ ones y
+ones-within zero x y p q h = let a : x ≡ 0 = omega arith in let b : y ≡ 0 = omega arith in omega (arith, ap ones (a ∙ sym b))
+ones-within (suc n) x y p q h =
+    let rest = ones-within n (x / 2) (y / 2) (omega (arith, two-pow-succ n)) (omega (arith, two-pow-succ n)) (λ i e. sym (bit-next y i) ∙ h (suc i) (bit-next x i ∙ e)) in
+    let low : x % 2 ≤ y % 2 = elim (bit-cases x 0) [ inl e ↦ omega (arith, bit-first x) | inr e ↦ omega (arith, bit-first x, bit-first y, h 0 e) ] in
+    omega (arith, ones-step x, ones-step y)
+
+pub ones-fewer : (n x y : ℕ) → x < 2 ^ n → y < 2 ^ n → Within x y → (x ≡ y → ⊥) → ones x < ones y
+ones-fewer zero x y p q h d = absurd (d (omega arith))
+ones-fewer (suc n) x y p q h d =
+    let hx : x / 2 < 2 ^ n = omega (arith, two-pow-succ n) in
+    let hy : y / 2 < 2 ^ n = omega (arith, two-pow-succ n) in
+    let below : Within (x / 2) (y / 2) = λ i e. sym (bit-next y i) ∙ h (suc i) (bit-next x i ∙ e) in
+    let low : x % 2 ≤ y % 2 = elim (bit-cases x 0) [ inl e ↦ omega (arith, bit-first x) | inr e ↦ omega (arith, bit-first x, bit-first y, h 0 e) ] in
+    elim (cases-eq (x / 2) (y / 2)) [
+      inl e ↦ omega (arith, ones-step x, ones-step y, ap ones e, d)
+    | inr e ↦ omega (arith, ones-step x, ones-step y, ones-fewer n (x / 2) (y / 2) hx hy below e)
+    ]

@@ -59,8 +59,6 @@ added-negative X k = record {
   has = or-one (X .negative) k;
   kept = subset-of X (record { positive = X .positive; negative = bitOr (X .negative) (2 ^ k) }) (λ i h. h) (or-keeps (X .negative) k);
   within = λ Y s m. subset-of (record { positive = X .positive; negative = bitOr (X .negative) (2 ^ k) }) Y (positive-within X Y s) (or-within (X .negative) (Y .negative) k (negative-within X Y s) m);
-  positive = omega arith;
-  negative = or-at-least (X .negative) (2 ^ k);
 }
 
 added-positive : (X : LiteralSet) (k : ℕ) → Added X (record { atom = k; negative = false }) (record { positive = bitOr (X .positive) (2 ^ k); negative = X .negative })
@@ -68,8 +66,6 @@ added-positive X k = record {
   has = or-one (X .positive) k;
   kept = subset-of X (record { positive = bitOr (X .positive) (2 ^ k); negative = X .negative }) (or-keeps (X .positive) k) (λ i h. h);
   within = λ Y s m. subset-of (record { positive = bitOr (X .positive) (2 ^ k); negative = X .negative }) Y (or-within (X .positive) (Y .positive) k (positive-within X Y s) m) (negative-within X Y s);
-  positive = or-at-least (X .positive) (2 ^ k);
-  negative = omega arith;
 }
 
 pub with-negative : (X : LiteralSet) (k : ℕ) (b : Bool) → b ≡ true → k < 64 → Added X (record { atom = k; negative = b }) (record { positive = X .positive; negative = bitOr (X .negative) ((1 * 2 ^ k) % 2 ^ 64) })

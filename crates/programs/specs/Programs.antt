@@ -72,6 +72,10 @@ pub record Model (p : Program) (w : ℕ) : Type 0 where
 abbrev pub rule-of : ClausalRule → Rule
 rule-of c = record { head = c .head; premises = c .premises; justification = literals (c .justification) }
 
--- rule number i of p; past the end some rule, on which no statement depends
+-- what stands past the end of a list of rules; no statement depends on it
+abbrev pub no-rule : Rule
+no-rule = record { head = record { atom = 0; negative = false }; premises = record { positive = 0; negative = 0 }; justification = formula falsity }
+
+-- rule number i of p
 abbrev pub rule-at : Program → ℕ → Rule
-rule-at p i = getD (p .rules) i (record { head = record { atom = 0; negative = false }; premises = record { positive = 0; negative = 0 }; justification = formula falsity })
+rule-at p i = getD (p .rules) i no-rule
