@@ -11,7 +11,7 @@ use Rattle.programs.specs.declared.literal.Literal.{Literal}
 use Rattle.programs.specs.declared.literal.LiteralSet.{LiteralSet}
 use Rattle.programs.specs.Literals.{bit, Member, Subset, Below, TrueIn, AllTrue, Interpretation, literals-of, LiteralsOfAreTheTrueOnes}
 use Rattle.programs.specs.Steps.{Added}
-use Rattle.programs.proofs.Bits.{Within, Apart, bit-none, bit-lt, or-one, or-keeps, or-within, or-at-least, within-both, bit-place, complement-bit, interpretation-below, bit-high}
+use Rattle.programs.proofs.Bits.{Within, Apart, bit-none, bit-lt, bit-cases, or-one, or-keeps, or-within, or-at-least, within-both, bit-place, complement-bit, interpretation-below, bit-high}
 
 pub same-set : (X Y : LiteralSet) → X .positive ≡ Y .positive → X .negative ≡ Y .negative → X ≡ Y
 same-set X Y p q = ap₂ (λ (a b : ℕ). record { positive = a; negative = b }) p q
@@ -102,3 +102,14 @@ below-side X n p q false i h = bit-place (X .positive) n i p h
 
 pub below-of : (X : LiteralSet) (n : ℕ) → X .positive < 2 ^ n → X .negative < 2 ^ n → Below n X
 below-of X n p q l h = below-side X n p q (l .negative) (l .atom) h
+
+pub positive-below : (X : LiteralSet) (n : ℕ) → Below n X → Interpretation n (X .positive)
+positive-below X n b i l =
+    elim (bit-cases (X .positive) i) [ inl e ↦ e | inr e ↦ absurd (omega (arith, b (record { atom = i; negative = false }) e)) ]
+
+pub negative-below : (X : LiteralSet) (n : ℕ) → Below n X → Interpretation n (X .negative)
+negative-below X n b i l =
+    elim (bit-cases (X .negative) i) [ inl e ↦ e | inr e ↦ absurd (omega (arith, b (record { atom = i; negative = true }) e)) ]
+
+pub words-below : (X : LiteralSet) (n : ℕ) → Interpretation n (X .positive) → Interpretation n (X .negative) → Below n X
+words-below X n p q = below-of X n (interpretation-below n (X .positive) p) (interpretation-below n (X .negative) q)

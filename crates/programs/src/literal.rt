@@ -5,7 +5,7 @@ ghost use mathlib.Core.Logic.{_⊎_};
 ghost use Prim.Native.Nat.{ℕ, _-_, _^_, _<_, _≤_};
 ghost use Rattle.std.specs.Orderings.{Decides};
 ghost use Rattle.std.specs.Results.{Cases};
-ghost use Rattle.programs.specs.Literals.{Member, Subset, AllTrue, Interpretation, BitBeyond, literals-of, LiteralsOfAreTheTrueOnes};
+ghost use Rattle.programs.specs.Literals.{Member, Subset, Below, AllTrue, Interpretation, BitBeyond, literals-of, LiteralsOfAreTheTrueOnes};
 ghost use Rattle.programs.specs.Refusals.{number};
 ghost use Rattle.programs.specs.Steps.{Added};
 use crate::refusal::Refusal;
@@ -88,6 +88,13 @@ impl LiteralSet {
         ensures { λ r. ⌜ Decides r (Subset other self) ⌝ }
     {
         self.positive & other.positive == other.positive && self.negative & other.negative == other.negative
+    }
+
+    // Whether every literal of the set is on one of so many atoms.
+    pub fn is_below(self, atoms: u8) -> bool
+        ensures { λ r. ⌜ Decides r (Below atoms self) ⌝ }
+    {
+        is_interpretation(atoms, self.positive) && is_interpretation(atoms, self.negative)
     }
 
     // Whether each literal of the set is true in an interpretation.

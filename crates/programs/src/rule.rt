@@ -1,4 +1,6 @@
 // Rules whose justification is a set of literals.
+ghost use Rattle.std.specs.Orderings.{Decides};
+ghost use Rattle.programs.specs.Programs.{RuleFits, rule-of};
 use crate::literal::Literal;
 use crate::literal::LiteralSet;
 
@@ -11,4 +13,13 @@ pub struct ClausalRule {
     pub head: Literal,
     pub premises: LiteralSet,
     pub justification: LiteralSet,
+}
+
+impl ClausalRule {
+    // Whether every literal of the rule is on one of so many atoms.
+    pub fn is_below(self, atoms: u8) -> bool
+        ensures { λ r. ⌜ Decides r (RuleFits atoms (rule-of self)) ⌝ }
+    {
+        self.head.atom < atoms && self.premises.is_below(atoms) && self.justification.is_below(atoms)
+    }
 }
