@@ -1,3 +1,4 @@
 pub mod Bits
 pub mod Sets
 pub mod Closures
+pub mod Props
