@@ -1,0 +1,3 @@
+pub mod Shifts
+pub mod Places
+pub mod Kept

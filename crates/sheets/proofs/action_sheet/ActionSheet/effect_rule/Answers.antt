@@ -1,0 +1,19 @@
+use mathlib.Core.Path.{refl, sym, _∙_}
+use native.Mathlib.Omega.{arith}
+use Rattle.sheets.proofs.Kept.{no-dynamic, dynamic-in-range}
+use Rattle.sheets.proofs.Places.{effect-at, same-rule}
+use Rattle.sheets.proofs.action_sheet.ActionSheet.effect_rule.Needs as need
+
+pub later-literal-head-requires : need.later-literal-head-requires
+later-literal-head-requires c κs = dynamic-in-range (c .args .self .now) (c .args .i) no-dynamic (c .pre) .1
+
+pub add-action : need.add-action
+add-action c = let h = dynamic-in-range (c .args .self .now) (c .args .i) no-dynamic (c .pre) .0 in omega arith
+
+pub with-literal-requires : need.with-literal-requires
+with-literal-requires c κs = let h = dynamic-in-range (c .args .self .now) (c .args .i) no-dynamic (c .pre) .0 in omega arith
+
+pub returns : need.returns
+returns c =
+    same-rule _ _ _ _ _ _ (c .later-literal-head .ensures) (c .with-literal .ensures .0) refl
+    ∙ sym (effect-at (c .args .self .now) (c .args .i) no-dynamic (c .pre))

@@ -1,0 +1,13 @@
+use mathlib.Core.Path.{sym, ap, _∙_}
+use Rattle.sheets.specs.Actions.{later, only, stays}
+use Rattle.sheets.specs.Sheets.{description}
+use Rattle.sheets.proofs.Places.{getD-ways, same-rule}
+use Rattle.sheets.proofs.action_sheet.ActionSheet.inertia_rule.Needs as need
+
+pub returns : need.returns
+returns c =
+    let s = c .args .self .now in
+    let literal = c .literal-number-literal .ensures in
+    let head = c .later-literal-head .ensures ∙ ap (later (description s)) literal in
+    same-rule _ _ _ _ _ _ head (c .only-literal .ensures ∙ ap only literal) (c .only-literal-2 .ensures ∙ ap only head)
+    ∙ sym (getD-ways (stays (description s)) (s .fluents) (c .args .i) _ (c .pre))

@@ -1,0 +1,5 @@
+pub mod Laws
+pub mod Actions
+pub mod Sheets
+pub mod Steps
+pub mod Fits

@@ -1,0 +1,54 @@
+// The laws of an action sheet. A literal of a law is on a fluent, by the fluent's number.
+ghost use Rattle.std.specs.Orderings.{Decides};
+ghost use Rattle.programs.specs.Literals.{Below};
+ghost use Rattle.sheets.specs.Laws.{StaticInRange, DynamicInRange};
+use programs::literal::Literal;
+use programs::literal::LiteralSet;
+use programs::literal::is_interpretation;
+
+// The head holds whenever the condition does.
+#[derive(Clone, Copy)]
+pub struct StaticLaw {
+    pub head: Literal,
+    pub condition: LiteralSet,
+}
+
+// Done where the condition holds, the action makes the head hold next.
+#[derive(Clone, Copy)]
+pub struct DynamicLaw {
+    pub action: u8,
+    pub head: Literal,
+    pub condition: LiteralSet,
+}
+
+// A law of either kind.
+#[derive(Clone, Copy)]
+pub enum Law {
+    Static(StaticLaw),
+    Dynamic(DynamicLaw),
+}
+
+// Whether the set has literals of the first fluents alone.
+fn is_below(fluents: u8, set: LiteralSet) -> bool
+    ensures { λ r. ⌜ Decides r (Below fluents set) ⌝ }
+{
+    is_interpretation(fluents, set.positive) && is_interpretation(fluents, set.negative)
+}
+
+impl StaticLaw {
+    // Whether the law speaks of the first fluents alone.
+    pub fn in_range(self, fluents: u8) -> bool
+        ensures { λ r. ⌜ Decides r (StaticInRange fluents self) ⌝ }
+    {
+        self.head.atom < fluents && is_below(fluents, self.condition)
+    }
+}
+
+impl DynamicLaw {
+    // Whether the law speaks of the first actions and fluents alone.
+    pub fn in_range(self, fluents: u8, actions: u8) -> bool
+        ensures { λ r. ⌜ Decides r (DynamicInRange fluents actions self) ⌝ }
+    {
+        self.action < actions && self.head.atom < fluents && is_below(fluents, self.condition)
+    }
+}
