@@ -24,9 +24,9 @@ abbrev pub quorum-program : Program
 quorum-program = record {
   atoms = 3;
   rules =
-    yes-assuming 0 (atom 0) ∷ not-assuming 0 (negation (atom 0))
-    ∷ yes-assuming 1 (atom 1) ∷ not-assuming 1 (negation (atom 1))
-    ∷ yes-assuming 2 either ∷ not-assuming 2 (negation either) ∷ [];
+      yes-assuming 0 (atom 0) ∷ not-assuming 0 (negation (atom 0))
+      ∷ yes-assuming 1 (atom 1) ∷ not-assuming 1 (negation (atom 1))
+      ∷ yes-assuming 2 either ∷ not-assuming 2 (negation either) ∷ [];
 }
 
 -- each rule of it has no premises, and atoms below 3
@@ -46,10 +46,22 @@ quorum-fits =
       few = omega arith;
       short = omega arith;
       each = (
-        rule-fits false 0 (atom 0) zeroth zeroth, (
-        rule-fits true 0 (negation (atom 0)) zeroth zeroth, (
-        rule-fits false 1 (atom 1) first first, (
-        rule-fits true 1 (negation (atom 1)) first first, (
-        rule-fits false 2 either second (zeroth, first), (
-        rule-fits true 2 (negation either) second (zeroth, first), tt))))));
+        rule-fits false 0 (atom 0) zeroth zeroth,
+        (
+          rule-fits true 0 (negation (atom 0)) zeroth zeroth,
+          (
+            rule-fits false 1 (atom 1) first first,
+            (
+              rule-fits true 1 (negation (atom 1)) first first,
+              (
+                rule-fits false 2 either second (zeroth, first),
+                (
+                  rule-fits true 2 (negation either) second (zeroth, first),
+                  tt,
+                ),
+              ),
+            ),
+          ),
+        ),
+      );
     }

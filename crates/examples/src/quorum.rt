@@ -16,7 +16,13 @@ pub struct Quorum;
 fn is_true(atom: u8, interpretation: u64) -> bool
     ensures { λ r. ⌜ r ≡ eqb (bit interpretation atom) 1 ⌝ }
 {
-    LiteralSet { positive: interpretation, negative: 0 }.contains(Literal { atom, negative: false })
+    LiteralSet {
+        positive: interpretation,
+        negative: 0,
+    }.contains(Literal {
+        atom,
+        negative: false,
+    })
 }
 
 pub impl RuleSource for Quorum as QuorumSource {
@@ -34,12 +40,30 @@ pub impl RuleSource for Quorum as QuorumSource {
 
     fn head(&self, i: usize) -> Result<Literal, Refusal> {
         match i {
-            0 => Ok(Literal { atom: 0, negative: false }),
-            1 => Ok(Literal { atom: 0, negative: true }),
-            2 => Ok(Literal { atom: 1, negative: false }),
-            3 => Ok(Literal { atom: 1, negative: true }),
-            4 => Ok(Literal { atom: 2, negative: false }),
-            5 => Ok(Literal { atom: 2, negative: true }),
+            0 => Ok(Literal {
+                atom: 0,
+                negative: false,
+            }),
+            1 => Ok(Literal {
+                atom: 0,
+                negative: true,
+            }),
+            2 => Ok(Literal {
+                atom: 1,
+                negative: false,
+            }),
+            3 => Ok(Literal {
+                atom: 1,
+                negative: true,
+            }),
+            4 => Ok(Literal {
+                atom: 2,
+                negative: false,
+            }),
+            5 => Ok(Literal {
+                atom: 2,
+                negative: true,
+            }),
             _ => Err(Refusal::OutOfRange),
         }
     }

@@ -31,12 +31,12 @@ module _ (p : Program) (known : ℕ) where
     each = all-push (λ s. (s < n + 1) × Model p (followed-by known s)) states n (wider n states (h .each)) (omega arith, model);
     every = λ s l m. elim (cases-eq s n) [ inl e ↦ subst (λ k. Has (states ++ n ∷ []) k) (sym e) (has-push states n) | inr d ↦ has-append-left states (n ∷ []) s (h .every s (omega arith) m) ];
     rising = λ i j l k.
-      let long = length-push states n in
-      let first = getD-append-left states (n ∷ []) 0 i (omega arith) in
-      elim (cases-lt j (length states)) [
-        inl in′ ↦ omega (arith, h .rising i j l in′, first, getD-append-left states (n ∷ []) 0 j in′)
-      | inr out ↦
-          let last : getD (states ++ n ∷ []) j 0 ≡ n = getD-push states n 0 j (omega arith) in
-          omega (arith, first, last, all-getD (λ s. (s < n) × Model p (followed-by known s)) states i 0 (omega arith) (h .each) .0)
-      ];
+        let long = length-push states n in
+        let first = getD-append-left states (n ∷ []) 0 i (omega arith) in
+        elim (cases-lt j (length states)) [
+          | inl in′ ↦ omega (arith, h .rising i j l in′, first, getD-append-left states (n ∷ []) 0 j in′)
+          | inr out ↦
+              let last : getD (states ++ n ∷ []) j 0 ≡ n = getD-push states n 0 j (omega arith) in
+              omega (arith, first, last, all-getD (λ s. (s < n) × Model p (followed-by known s)) states i 0 (omega arith) (h .each) .0)
+        ];
   }

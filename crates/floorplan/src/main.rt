@@ -5,8 +5,15 @@ ghost use mathlib.Core.Bool.{cond};
 ghost use Prim.Native.Nat.{_+_, _^_};
 ghost use lib.Dec.{ltb};
 ghost use lib.ListN.{getD};
-use std::error::AnyError;
-use std::io;
+use crate::allowed::next_states;
+use crate::project::ACTION_COUNT;
+use crate::project::ACTIONS;
+use crate::project::ARCHIVE;
+use crate::project::FLUENT_COUNT;
+use crate::project::FLUENTS;
+use crate::project::LAWS;
+use crate::project::MOVES;
+use crate::project::Move;
 use programs::literal::Literal;
 use programs::literal::LiteralSet;
 use programs::refusal::RefusalDebug;
@@ -15,15 +22,8 @@ use programs::refusal::RefusalError;
 use sheets::action_sheet::ActionSheet;
 use sheets::action_sheet::source::ActionSheetSource;
 use sheets::law::Law;
-use crate::allowed::next_states;
-use crate::project::ACTIONS;
-use crate::project::ACTION_COUNT;
-use crate::project::ARCHIVE;
-use crate::project::FLUENTS;
-use crate::project::FLUENT_COUNT;
-use crate::project::LAWS;
-use crate::project::MOVES;
-use crate::project::Move;
+use std::error::AnyError;
+use std::io;
 
 mod allowed;
 mod project;
@@ -35,8 +35,14 @@ fn main(rt: LibcRuntime) -> Result<(), AnyError> {
 fn follow(rt: &LibcRuntime) -> Result<(), AnyError> {
     let sheet = ActionSheet::new(FLUENT_COUNT, ACTION_COUNT, &LAWS)?;
     println!(rt, "SHEET A-104, from the drafter's laptop to the archive")?;
-    println!(rt, "Each block has the state of the sheet, the action that is tried, and every state that the")?;
-    println!(rt, "project's laws allow next. Of several the first is taken; where there is none, nothing is done.")?;
+    println!(
+        rt,
+        "Each block has the state of the sheet, the action that is tried, and every state that the"
+    )?;
+    println!(
+        rt,
+        "project's laws allow next. Of several the first is taken; where there is none, nothing is done."
+    )?;
     let mut state = 0;
     for step in MOVES {
         state = make_move(rt, &sheet, state, step)?;
@@ -45,7 +51,12 @@ fn follow(rt: &LibcRuntime) -> Result<(), AnyError> {
 }
 
 // Tells which states may follow a move, and answers the state that it leaves.
-fn make_move(rt: &LibcRuntime, sheet: &ActionSheet, state: u64, step: Move) -> Result<u64, AnyError> {
+fn make_move(
+    rt: &LibcRuntime,
+    sheet: &ActionSheet,
+    state: u64,
+    step: Move,
+) -> Result<u64, AnyError> {
     let place = step.place;
     let action = action_name(step.action);
     println!(rt, "")?;
@@ -76,7 +87,11 @@ fn first_or(states: &[u64], other: u64) -> u64
 fn action_bit(action: u8) -> u64
     ensures { λ r. ⌜ r ≡ cond (ltb action 7) (2 ^ (9 + action)) 0 ⌝ }
 {
-    if action < ACTION_COUNT { 1 << (FLUENT_COUNT + action) } else { 0 }
+    if action < ACTION_COUNT {
+        1 << (FLUENT_COUNT + action)
+    } else {
+        0
+    }
 }
 
 fn action_name(action: u8) -> &'static str {
@@ -98,7 +113,15 @@ fn print_next(rt: &LibcRuntime, next: &[u64]) -> io::Result<()> {
         return println!(rt, "  may follow: no state at all");
     }
     for (i, state) in next.iter().enumerate() {
-        print!(rt, "{}", if i == 0 { "  may follow: " } else { "          or: " })?;
+        print!(
+            rt,
+            "{}",
+            if i == 0 {
+                "  may follow: "
+            } else {
+                "          or: "
+            }
+        )?;
         print_state(rt, *state)?;
     }
     Ok(())
@@ -169,5 +192,10 @@ fn print_condition(rt: &LibcRuntime, condition: LiteralSet) -> io::Result<()> {
 }
 
 fn print_literal(rt: &LibcRuntime, literal: Literal) -> io::Result<()> {
-    print!(rt, "{}{}", if literal.negative { "not " } else { "" }, fluent_name(literal.atom))
+    print!(
+        rt,
+        "{}{}",
+        if literal.negative { "not " } else { "" },
+        fluent_name(literal.atom)
+    )
 }

@@ -1,10 +1,10 @@
 -- The bits of a word.
-use mathlib.Core.Path.{_≡_, refl, sym, ap, ap₂, _∙_, subst}
-use mathlib.Core.Logic.{_⊎_, inl, inr, ⊎-elim}
+use mathlib.Core.Path.{_≡_, refl, sym, ap, _∙_, subst}
+use mathlib.Core.Logic.{_⊎_, inl, inr}
 use Prim.Native.Nat.{ℕ, zero, suc, _+_, _-_, _*_, _/_, _%_, _^_, _<_, _≤_, min, max}
 use native.Mathlib.Nat.{div-eq-of-lt, zero-div, div-one, div-self, div-div-eq-div-mul, pow-succ', two-pow-succ}
 use native.Mathlib.Omega.{arith}
-use lib.Bits.{bitAnd, bitOr, or-step, and-step, or-shr, and-shr, or-add-and, and-le-r}
+use lib.Bits.{bitAnd, bitOr, or-step, and-step, or-shr, and-shr}
 use lib.Count.{ones, ones-step}
 use lib.Pow.{pow-pos, pow-mono}
 use Rattle.std.proofs.shelf.Tests.{cases-eq, cases-lt}
@@ -73,9 +73,6 @@ bit-power-other (suc k) (suc i) h =
     let half : 2 ^ suc k / 2 ≡ 2 ^ k = omega (arith, two-pow-succ k) in
     bit-next (2 ^ suc k) i ∙ ap (λ n. bit n i) half ∙ bit-power-other k i (λ e. h (ap suc e))
 
-pub or-at-least : (a b : ℕ) → a ≤ bitOr a b
-or-at-least a b = omega (arith, or-add-and a b, and-le-r a b)
-
 -- each bit of p is one of x
 abbrev pub Within : ℕ → ℕ → Type 0
 Within p x = (i : ℕ) → bit p i ≡ 1 → bit x i ≡ 1
@@ -87,12 +84,12 @@ mask-within x p e i h = omega (arith, ap (λ n. bit n i) e, bit-and x p i, bit-l
 pub within-mask : (x p : ℕ) → Within p x → bitAnd x p ≡ p
 within-mask x p h =
     bits-same (bitAnd x p) p
-      (λ i. elim (bit-cases p i) [ inl e ↦ omega (arith, bit-and x p i) | inr e ↦ omega (arith, bit-and x p i, h i e) ])
+    (λ i. elim (bit-cases p i) [ inl e ↦ omega (arith, bit-and x p i) | inr e ↦ omega (arith, bit-and x p i, h i e) ])
 
 pub within-both : (x y : ℕ) → Within x y → Within y x → x ≡ y
 within-both x y h k =
     bits-same x y
-      (λ i. elim (bit-cases x i) [ inl e ↦ elim (bit-cases y i) [ inl f ↦ omega arith | inr f ↦ omega (arith, k i f) ] | inr e ↦ omega (arith, h i e) ])
+    (λ i. elim (bit-cases x i) [ inl e ↦ elim (bit-cases y i) [ inl f ↦ omega arith | inr f ↦ omega (arith, k i f) ] | inr e ↦ omega (arith, h i e) ])
 
 pub or-one : (x k : ℕ) → bit (bitOr x (2 ^ k)) k ≡ 1
 or-one x k = omega (arith, bit-or x (2 ^ k) k, bit-power-same k, bit-lt x k)
@@ -103,8 +100,8 @@ or-keeps x k i h = omega (arith, bit-or x (2 ^ k) i, bit-lt (2 ^ k) i)
 pub or-within : (x y k : ℕ) → Within x y → bit y k ≡ 1 → Within (bitOr x (2 ^ k)) y
 or-within x y k h o i e =
     elim (cases-eq i k) [
-      inl s ↦ subst (λ j. bit y j ≡ 1) (sym s) o
-    | inr d ↦ h i (omega (arith, bit-or x (2 ^ k) i, bit-power-other k i d))
+      | inl s ↦ subst (λ j. bit y j ≡ 1) (sym s) o
+      | inr d ↦ h i (omega (arith, bit-or x (2 ^ k) i, bit-power-other k i d))
     ]
 
 pub bit-high : (x n i : ℕ) → x < 2 ^ n → n ≤ i → bit x i ≡ 0
@@ -124,7 +121,7 @@ mask-apart x p e i h = omega (arith, ap (λ n. bit n i) e, bit-none i, bit-and x
 pub apart-mask : (x p : ℕ) → Apart p x → bitAnd x p ≡ 0
 apart-mask x p h =
     bits-same (bitAnd x p) 0
-      (λ i. elim (bit-cases p i) [ inl e ↦ omega (arith, bit-and x p i, bit-none i) | inr e ↦ omega (arith, bit-and x p i, h i e, bit-none i) ])
+    (λ i. elim (bit-cases p i) [ inl e ↦ omega (arith, bit-and x p i, bit-none i) | inr e ↦ omega (arith, bit-and x p i, h i e, bit-none i) ])
 
 -- a word has no bit at n or above exactly where it is below 2 ^ n; `bit-high` is the other way
 pub low-word : (n w : ℕ) → ((i : ℕ) → n ≤ i → bit w i ≡ 0) → w < 2 ^ n
@@ -153,10 +150,10 @@ some-bit : (k x : ℕ) → x < 2 ^ k → 0 < x → (i : ℕ) × (bit x i ≡ 1)
 some-bit zero x h l = absurd (omega arith)
 some-bit (suc k) x h l =
     elim (bit-cases x 0) [
-      inr e ↦ (0, e)
-    | inl e ↦
-        let rest = some-bit k (x / 2) (omega (arith, two-pow-succ k)) (omega (arith, bit-first x)) in
-        (suc (rest .0), bit-next x (rest .0) ∙ rest .1)
+      | inr e ↦ (0, e)
+      | inl e ↦
+          let rest = some-bit k (x / 2) (omega (arith, two-pow-succ k)) (omega (arith, bit-first x)) in
+          (suc (rest .0), bit-next x (rest .0) ∙ rest .1)
     ]
 
 -- and any other number has a bit beyond
@@ -199,6 +196,6 @@ ones-fewer (suc n) x y p q h d =
     let below : Within (x / 2) (y / 2) = λ i e. sym (bit-next y i) ∙ h (suc i) (bit-next x i ∙ e) in
     let low : x % 2 ≤ y % 2 = elim (bit-cases x 0) [ inl e ↦ omega (arith, bit-first x) | inr e ↦ omega (arith, bit-first x, bit-first y, h 0 e) ] in
     elim (cases-eq (x / 2) (y / 2)) [
-      inl e ↦ omega (arith, ones-step x, ones-step y, ap ones e, d)
-    | inr e ↦ omega (arith, ones-step x, ones-step y, ones-fewer n (x / 2) (y / 2) hx hy below e)
+      | inl e ↦ omega (arith, ones-step x, ones-step y, ap ones e, d)
+      | inr e ↦ omega (arith, ones-step x, ones-step y, ones-fewer n (x / 2) (y / 2) hx hy below e)
     ]

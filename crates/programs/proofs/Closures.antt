@@ -1,31 +1,22 @@
 -- From the marks of a reduct, over rounds, to its smallest closed set.
 use mathlib.Core.Path.{_≡_, refl, sym, ap, _∙_, subst}
-use mathlib.Core.Logic.{_≢_, inl, inr}
+use mathlib.Core.Logic.{inl, inr}
 use mathlib.Core.Bool.{Bool, true, false, cond}
 use mathlib.Core.List.{List}
-use Prim.Native.Nat.{ℕ, _+_, _^_, _<_, _≤_}
+use Prim.Native.Nat.{ℕ, _+_, _^_, _<_}
 use native.Mathlib.Omega.{arith}
 use borrow.Author.Count.{below-more}
 use lib.Count.{ones}
-use lib.ListN.{length, getD, set}
+use lib.ListN.{length, getD}
 use Rattle.std.specs.Orderings.{Decides}
 use Rattle.std.proofs.shelf.Elements.{has-getD}
-use Rattle.std.proofs.shelf.Lists.{getD-set-same, getD-set-other}
-use Rattle.std.proofs.shelf.Tests.{true≢false, false≢true, cases-eq}
-use Rattle.std.proofs.shelf.Ways.{decides-at}
+use Rattle.std.proofs.shelf.Tests.{false≢true, cases-eq}
 use Rattle.programs.specs.declared.literal.LiteralSet.{LiteralSet}
-use Rattle.programs.specs.Literals.{Member, Subset}
+use Rattle.programs.specs.Literals.{Member, Subset, Added}
 use Rattle.programs.specs.Programs.{Rule, Program, Holds, Reduct, Closed, Smallest, rule-at, no-rule}
-use Rattle.programs.specs.Steps.{Added, Marked, Obeys, ObeysMarked, Fired, Grown}
+use Rattle.programs.specs.Steps.{Marked, Obeys, ObeysMarked, Fired, Grown}
 use Rattle.programs.proofs.Bits.{ones-within, ones-fewer}
 use Rattle.programs.proofs.Sets.{same-set, subset-both, positive-within, negative-within}
-
--- one rule marked more
-pub marked-more : (p : Program) (w i : ℕ) (table : List Bool) (b : Bool) → i < length table → Marked p w i table → Decides b (Holds (rule-at p i .justification) w) → Marked p w (i + 1) (set table i b)
-marked-more p w i table b lt old here =
-    below-more (λ k. Decides (getD (set table i b) k false) (Holds (rule-at p k .justification) w)) i
-      (λ k l. let other : k ≢ i = omega arith in decides-at _ _ (getD-set-other table i k b false other) (old k l))
-      (decides-at _ _ (getD-set-same table i b false lt) here)
 
 -- what one rule makes of a set
 pub fired-added : (r : Rule) (X Y : LiteralSet) → Subset (r .premises) X → Added X (r .head) Y → Fired r X Y
@@ -45,8 +36,8 @@ module _ (p : Program) (table : List Bool) where
     kept = λ l m. f .kept l (g .kept l m);
     within = λ W o w. f .within W (o i lt on) (g .within W o w);
     quiet = λ e.
-      let same = subset-both Y X (λ l m. subst (λ V. Member l V) e (f .kept l m)) (g .kept) in
-      below-more (λ k. getD table k false ≡ true → Obeys X (rule-at p k)) i
+        let same = subset-both Y X (λ l m. subst (λ V. Member l V) e (f .kept l m)) (g .kept) in
+        below-more (λ k. getD table k false ≡ true → Obeys X (rule-at p k)) i
         (g .quiet same)
         (λ _ has. subst (λ V. Member (rule-at p i .head) V) e (f .head (λ l m. g .kept l (has l m))));
   }
@@ -82,15 +73,14 @@ more-literals X Y xp xn yp yn s grew =
     let pw = ones-within 64 (X .positive) (Y .positive) xp yp p in
     let nw = ones-within 64 (X .negative) (Y .negative) xn yn n in
     elim (cases-eq (X .positive) (Y .positive)) [
-      inl e ↦ omega (arith, pw, ones-fewer 64 (X .negative) (Y .negative) xn yn n (λ f. grew (same-set Y X (sym e) (sym f))))
-    | inr d ↦ omega (arith, nw, ones-fewer 64 (X .positive) (Y .positive) xp yp p d)
+      | inl e ↦ omega (arith, pw, ones-fewer 64 (X .negative) (Y .negative) xn yn n (λ f. grew (same-set Y X (sym e) (sym f))))
+      | inr d ↦ omega (arith, nw, ones-fewer 64 (X .positive) (Y .positive) xp yp p d)
     ]
 
 -- what the derived `==` ensures
 pub same-test : (b : Bool) (X Y : LiteralSet) → cond {A = Type 0} b (Decides true (X .positive ≡ Y .positive) × Decides true (X .negative ≡ Y .negative)) ((Decides false (X .positive ≡ Y .positive) → ⊥) → (Decides false (X .negative ≡ Y .negative) → ⊥) → ⊥) → Decides b (X ≡ Y)
 same-test true X Y h = (λ _. same-set X Y (h .0 .0 refl) (h .1 .0 refl), λ _. refl)
-same-test false X Y h =
-    (
-      λ e. absurd (false≢true e),
-      λ e. absurd (h (λ d. false≢true (d .1 (ap (λ V. V .positive) e))) (λ d. false≢true (d .1 (ap (λ V. V .negative) e))))
-    )
+same-test false X Y h = (
+  λ e. absurd (false≢true e),
+  λ e. absurd (h (λ d. false≢true (d .1 (ap (λ V. V .positive) e))) (λ d. false≢true (d .1 (ap (λ V. V .negative) e)))),
+)

@@ -1,5 +1,5 @@
 -- That a program fits can be shown in one way only, so that a source may keep the fact in a ghost field.
-use mathlib.Core.Path.{_≡_, refl}
+use mathlib.Core.Path.{refl}
 use mathlib.Core.HLevel.{Π-prop, ×-prop}
 use mathlib.Core.Logic.{∥∥₁-elim}
 use mathlib.Core.List.{List, [], _∷_}

@@ -1,17 +1,16 @@
 -- Sets of literals, closed sets and smallest ones.
-use mathlib.Core.Path.{_≡_, refl, sym, ap, ap₂, _∙_, subst}
-use mathlib.Core.Logic.{_⊎_, inl, inr}
+use mathlib.Core.Path.{_≡_, sym, ap, ap₂, subst}
+use mathlib.Core.Logic.{inl, inr}
 use mathlib.Core.Bool.{Bool, true, false, cond}
-use Prim.Native.Nat.{ℕ, _+_, _-_, _*_, _%_, _^_, _<_, _≤_}
+use Prim.Native.Nat.{ℕ, _-_, _*_, _%_, _^_, _<_}
 use native.Mathlib.Omega.{arith}
-use lib.Bits.{bitAnd, bitOr}
+use lib.Bits.{bitOr}
 use Rattle.std.proofs.shelf.Tests.{true≢false, false≢true}
 use Rattle.std.proofs.shelf.Bits.{one-shl}
 use Rattle.programs.specs.declared.literal.Literal.{Literal}
 use Rattle.programs.specs.declared.literal.LiteralSet.{LiteralSet}
-use Rattle.programs.specs.Literals.{bit, Member, Subset, Below, TrueIn, AllTrue, Interpretation, literals-of, LiteralsOfAreTheTrueOnes}
-use Rattle.programs.specs.Steps.{Added}
-use Rattle.programs.proofs.Bits.{Within, Apart, bit-none, bit-lt, bit-cases, or-one, or-keeps, or-within, or-at-least, within-both, bit-place, complement-bit, interpretation-below, bit-high}
+use Rattle.programs.specs.Literals.{bit, Subset, no-literals, with-literal, Added, Below, AllTrue, Interpretation, LiteralsOfAreTheTrueOnes}
+use Rattle.programs.proofs.Bits.{Within, Apart, bit-none, bit-cases, or-one, or-keeps, or-within, within-both, bit-place, complement-bit, interpretation-below}
 
 pub same-set : (X Y : LiteralSet) → X .positive ≡ Y .positive → X .negative ≡ Y .negative → X ≡ Y
 same-set X Y p q = ap₂ (λ (a b : ℕ). record { positive = a; negative = b }) p q
@@ -33,11 +32,11 @@ subset-of X Y p n l h = either-side X Y p n (l .negative) (l .atom) h
 pub subset-both : (X Y : LiteralSet) → Subset X Y → Subset Y X → X ≡ Y
 subset-both X Y a b =
     same-set X Y
-      (within-both (X .positive) (Y .positive) (positive-within X Y a) (positive-within Y X b))
-      (within-both (X .negative) (Y .negative) (negative-within X Y a) (negative-within Y X b))
+    (within-both (X .positive) (Y .positive) (positive-within X Y a) (positive-within Y X b))
+    (within-both (X .negative) (Y .negative) (negative-within X Y a) (negative-within Y X b))
 
-pub empty-subset : (Y : LiteralSet) → Subset (record { positive = 0; negative = 0 }) Y
-empty-subset Y = subset-of (record { positive = 0; negative = 0 }) Y (λ i h. omega (arith, bit-none i)) (λ i h. omega (arith, bit-none i))
+pub empty-subset : (Y : LiteralSet) → Subset no-literals Y
+empty-subset Y = subset-of no-literals Y (λ i h. omega (arith, bit-none i)) (λ i h. omega (arith, bit-none i))
 
 -- a set that is true in w, word by word
 pub positive-true : (X : LiteralSet) (w : ℕ) → AllTrue X w → Within (X .positive) w
@@ -68,13 +67,23 @@ added-positive X k = record {
   within = λ Y s m. subset-of (record { positive = bitOr (X .positive) (2 ^ k); negative = X .negative }) Y (or-within (X .positive) (Y .positive) k (positive-within X Y s) m) (negative-within X Y s);
 }
 
-pub with-negative : (X : LiteralSet) (k : ℕ) (b : Bool) → b ≡ true → k < 64 → Added X (record { atom = k; negative = b }) (record { positive = X .positive; negative = bitOr (X .negative) ((1 * 2 ^ k) % 2 ^ 64) })
-with-negative X k true e h = rw (one-shl k 64 h) (added-negative X k)
+-- `x | 1 << k` in the word of either sign
+or-negative : (X : LiteralSet) (k : ℕ) → k < 64 → record { positive = X .positive; negative = bitOr (X .negative) ((1 * 2 ^ k) % 2 ^ 64) } ≡ with-literal X (record { atom = k; negative = true })
+or-negative X k h = ap (λ m. record { positive = X .positive; negative = bitOr (X .negative) m }) (one-shl k 64 h)
+
+or-positive : (X : LiteralSet) (k : ℕ) → k < 64 → record { positive = bitOr (X .positive) ((1 * 2 ^ k) % 2 ^ 64); negative = X .negative } ≡ with-literal X (record { atom = k; negative = false })
+or-positive X k h = ap (λ m. record { positive = bitOr (X .positive) m; negative = X .negative }) (one-shl k 64 h)
+
+abbrev With : LiteralSet → Literal → LiteralSet → Type 0
+With X l Y = (Y ≡ with-literal X l) × Added X l Y
+
+pub with-negative : (X : LiteralSet) (k : ℕ) (b : Bool) → b ≡ true → k < 64 → With X (record { atom = k; negative = b }) (record { positive = X .positive; negative = bitOr (X .negative) ((1 * 2 ^ k) % 2 ^ 64) })
+with-negative X k true e h = (or-negative X k h, subst (Added X (record { atom = k; negative = true })) (sym (or-negative X k h)) (added-negative X k))
 with-negative X k false e h = absurd (false≢true e)
 
-pub with-positive : (X : LiteralSet) (k : ℕ) (b : Bool) → b ≡ false → k < 64 → Added X (record { atom = k; negative = b }) (record { positive = bitOr (X .positive) ((1 * 2 ^ k) % 2 ^ 64); negative = X .negative })
+pub with-positive : (X : LiteralSet) (k : ℕ) (b : Bool) → b ≡ false → k < 64 → With X (record { atom = k; negative = b }) (record { positive = bitOr (X .positive) ((1 * 2 ^ k) % 2 ^ 64); negative = X .negative })
 with-positive X k true e h = absurd (true≢false e)
-with-positive X k false e h = rw (one-shl k 64 h) (added-positive X k)
+with-positive X k false e h = (or-positive X k h, subst (Added X (record { atom = k; negative = false })) (sym (or-positive X k h)) (added-positive X k))
 
 -- the two words of an interpretation
 complement-below : (n w : ℕ) → w < 2 ^ n → 2 ^ n - 1 - w < 2 ^ n

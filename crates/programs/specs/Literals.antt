@@ -2,6 +2,7 @@
 use mathlib.Core.Path.{_≡_}
 use mathlib.Core.Bool.{cond}
 use Prim.Native.Nat.{ℕ, _-_, _/_, _%_, _^_, _<_, _≤_}
+use lib.Bits.{bitOr}
 use Rattle.programs.specs.declared.literal.Literal.{Literal}
 use Rattle.programs.specs.declared.literal.LiteralSet.{LiteralSet}
 
@@ -20,6 +21,23 @@ Member l X = bit (side l X) (l .atom) ≡ 1
 -- each literal of X is in Y
 abbrev pub Subset : LiteralSet → LiteralSet → Type 0
 Subset X Y = (l : Literal) → Member l X → Member l Y
+
+-- no literal
+abbrev pub no-literals : LiteralSet
+no-literals = record { positive = 0; negative = 0 }
+
+-- X and the literal l: the bit of its atom is set in the word of its sign
+abbrev pub with-literal : LiteralSet → Literal → LiteralSet
+with-literal X l = record {
+  positive = cond (l .negative) (X .positive) (bitOr (X .positive) (2 ^ l .atom));
+  negative = cond (l .negative) (bitOr (X .negative) (2 ^ l .atom)) (X .negative);
+}
+
+-- what those two words hold: Y is the smallest set that has the literals of X and the literal l
+pub record Added (X : LiteralSet) (l : Literal) (Y : LiteralSet) : Type 0 where
+  pub has : Member l Y
+  pub kept : Subset X Y
+  pub within : (Z : LiteralSet) → Subset X Z → Member l Z → Subset Y Z
 
 -- each literal of X is on an atom below n
 abbrev pub Below : ℕ → LiteralSet → Type 0

@@ -1,20 +1,13 @@
--- What the steps of a closure give. `Added` is also what the public `with` promises; the rest stands on private steps.
+-- What the steps of a closure give. Only contracts of private steps name these.
 use mathlib.Core.Path.{_≡_}
 use mathlib.Core.Bool.{Bool, true, false}
 use mathlib.Core.List.{List}
 use Prim.Native.Nat.{ℕ, _<_}
 use lib.ListN.{length, getD}
 use Rattle.std.specs.Orderings.{Decides}
-use Rattle.programs.specs.declared.literal.Literal.{Literal}
 use Rattle.programs.specs.declared.literal.LiteralSet.{LiteralSet}
 use Rattle.programs.specs.Literals.{Member, Subset}
 use Rattle.programs.specs.Programs.{Rule, Program, Holds, rule-at}
-
--- Y is the smallest set that has the literals of X and the literal l
-pub record Added (X : LiteralSet) (l : Literal) (Y : LiteralSet) : Type 0 where
-  pub has : Member l Y
-  pub kept : Subset X Y
-  pub within : (Z : LiteralSet) → Subset X Z → Member l Z → Subset Y Z
 
 -- for each of the first m rules of p, the table says whether its justification holds in w
 abbrev pub Marked : Program → ℕ → ℕ → List Bool → Type 0

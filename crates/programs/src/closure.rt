@@ -1,6 +1,6 @@
 // The closure of a program relative to an interpretation, and the test for a model.
 ghost use mathlib.Core.Path.{_≡_};
-ghost use Prim.Native.Nat.{ℕ, _<_, _≤_};
+ghost use Prim.Native.Nat.{_≤_};
 ghost use lib.ListN.{length};
 ghost use Rattle.std.specs.Results.{Cases};
 ghost use Rattle.programs.specs.Literals.{BitBeyond};
@@ -16,7 +16,11 @@ use crate::rule::MAX_RULES;
 use crate::source::RuleSource;
 
 // Marks the rules whose justification holds in the interpretation, the reduct. Each justification is asked once.
-fn mark_reduct<S: RuleSource>(source: &S, interpretation: u64, marks: &mut [bool]) -> Result<(), Refusal>
+fn mark_reduct<S: RuleSource>(
+    source: &S,
+    interpretation: u64,
+    marks: &mut [bool],
+) -> Result<(), Refusal>
     requires { ⌜ length (now marks) ≡ 4096 ⌝ }
     ensures { λ r. ⌜ Cases r (λ _. Marked (program (now (source .entry))) interpretation (length (program (now (source .entry)) .rules)) (now (marks .exit))) (λ e. BitBeyond (program (now (source .entry)) .atoms) interpretation × (number e ≡ 6)) ⌝ }
 {
@@ -37,7 +41,11 @@ fn fire<S: RuleSource>(source: &S, i: usize, derived: LiteralSet) -> Result<Lite
 }
 
 // Each marked rule once, in order.
-fn round<S: RuleSource>(source: &S, marks: &[bool], derived: LiteralSet) -> Result<LiteralSet, Refusal>
+fn round<S: RuleSource>(
+    source: &S,
+    marks: &[bool],
+    derived: LiteralSet,
+) -> Result<LiteralSet, Refusal>
     requires { ⌜ length (now marks) ≡ 4096 ⌝ }
     ensures { λ r. ⌜ Cases r (λ y. Grown (program (now (source .entry))) (now (marks .entry)) (length (program (now (source .entry)) .rules)) derived y) (λ e. ⊥) ⌝ }
 {

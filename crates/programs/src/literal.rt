@@ -2,12 +2,11 @@
 ghost use mathlib.Core.Path.{_≡_};
 ghost use mathlib.Core.Bool.{cond};
 ghost use mathlib.Core.Logic.{_⊎_};
-ghost use Prim.Native.Nat.{ℕ, _-_, _^_, _<_, _≤_};
+ghost use Prim.Native.Nat.{_-_, _^_, _<_, _≤_};
 ghost use Rattle.std.specs.Orderings.{Decides};
 ghost use Rattle.std.specs.Results.{Cases};
-ghost use Rattle.programs.specs.Literals.{Member, Subset, Below, AllTrue, Interpretation, BitBeyond, literals-of, LiteralsOfAreTheTrueOnes};
+ghost use Rattle.programs.specs.Literals.{Member, Subset, with-literal, Added, Below, AllTrue, Interpretation, BitBeyond, literals-of, LiteralsOfAreTheTrueOnes};
 ghost use Rattle.programs.specs.Refusals.{number};
-ghost use Rattle.programs.specs.Steps.{Added};
 use crate::refusal::Refusal;
 
 // The most atoms that a program may have: the width of a word of atoms.
@@ -39,11 +38,18 @@ fn all_atoms(atoms: u8) -> u64
     requires { ⌜ atoms ≤ 64 ⌝ }
     ensures { λ r. ⌜ r ≡ 2 ^ atoms - 1 ⌝ }
 {
-    if atoms == MAX_ATOMS { u64::MAX } else { (1u64 << atoms) - 1 }
+    if atoms == MAX_ATOMS {
+        u64::MAX
+    } else {
+        (1u64 << atoms) - 1
+    }
 }
 
 impl LiteralSet {
-    pub const EMPTY: LiteralSet = LiteralSet { positive: 0, negative: 0 };
+    pub const EMPTY: LiteralSet = LiteralSet {
+        positive: 0,
+        negative: 0,
+    };
 
     // The literals that are true in an interpretation: its number, and the complement of that.
     pub fn of_interpretation(atoms: u8, word: u64) -> Result<LiteralSet, Refusal>
@@ -52,7 +58,10 @@ impl LiteralSet {
         if atoms > MAX_ATOMS || !is_interpretation(atoms, word) {
             return Err(Refusal::OutOfRange);
         }
-        Ok(LiteralSet { positive: word, negative: all_atoms(atoms) - word })
+        Ok(LiteralSet {
+            positive: word,
+            negative: all_atoms(atoms) - word,
+        })
     }
 
     // Whether the literal is in the set.
@@ -66,28 +75,39 @@ impl LiteralSet {
     fn side(self, negative: bool) -> u64
         ensures { λ r. ⌜ r ≡ cond negative (self .negative) (self .positive) ⌝ }
     {
-        if negative { self.negative } else { self.positive }
+        if negative {
+            self.negative
+        } else {
+            self.positive
+        }
     }
 
     // The set with one literal more.
     pub fn with(self, literal: Literal) -> Result<LiteralSet, Refusal>
-        ensures { λ r. ⌜ Cases r (λ x. (literal .atom < 64) × Added self literal x) (λ e. (64 ≤ literal .atom) × (number e ≡ 6)) ⌝ }
+        ensures { λ r. ⌜ Cases r (λ x. (literal .atom < 64) × (x ≡ with-literal self literal) × Added self literal x) (λ e. (64 ≤ literal .atom) × (number e ≡ 6)) ⌝ }
     {
         if literal.atom >= MAX_ATOMS {
             return Err(Refusal::OutOfRange);
         }
         let bit = 1u64 << literal.atom;
         if literal.negative {
-            return Ok(LiteralSet { positive: self.positive, negative: self.negative | bit });
+            return Ok(LiteralSet {
+                positive: self.positive,
+                negative: self.negative | bit,
+            });
         }
-        Ok(LiteralSet { positive: self.positive | bit, negative: self.negative })
+        Ok(LiteralSet {
+            positive: self.positive | bit,
+            negative: self.negative,
+        })
     }
 
     // Whether the set has every literal of the other.
     pub fn includes(self, other: LiteralSet) -> bool
         ensures { λ r. ⌜ Decides r (Subset other self) ⌝ }
     {
-        self.positive & other.positive == other.positive && self.negative & other.negative == other.negative
+        self.positive & other.positive == other.positive
+            && self.negative & other.negative == other.negative
     }
 
     // Whether every literal of the set is on one of so many atoms.

@@ -20,6 +20,8 @@ impl ClausalRule {
     pub fn is_below(self, atoms: u8) -> bool
         ensures { λ r. ⌜ Decides r (RuleFits atoms (rule-of self)) ⌝ }
     {
-        self.head.atom < atoms && self.premises.is_below(atoms) && self.justification.is_below(atoms)
+        self.head.atom < atoms
+            && self.premises.is_below(atoms)
+            && self.justification.is_below(atoms)
     }
 }

@@ -1,20 +1,19 @@
--- Sets of literals at time 1, and with one literal more.
+-- Sets of literals at time 1.
 use mathlib.Core.Path.{_≡_, sym, ap, ap₂, _∙_}
 use mathlib.Core.Logic.{inl, inr}
 use mathlib.Core.Bool.{Bool, true, false, cond}
 use Prim.Native.Nat.{ℕ, zero, suc, _+_, _-_, _*_, _/_, _%_, _^_, _<_, _≤_}
 use native.Mathlib.Nat.{add-comm, mul-left-comm, pow-succ'}
 use native.Mathlib.Omega.{arith}
-use lib.Bits.{bitOr}
 use lib.Pow.{shl-exact}
-use Rattle.std.proofs.shelf.Bits.{shl-shr, shr-shr, one-shl}
-use Rattle.std.proofs.shelf.Tests.{cases-lt, true≢false, false≢true}
+use Rattle.std.proofs.shelf.Bits.{shl-shr, shr-shr}
+use Rattle.std.proofs.shelf.Tests.{cases-lt}
 use Rattle.programs.specs.declared.literal.LiteralSet.{LiteralSet}
 use Rattle.programs.specs.Literals.{bit, Below}
 use Rattle.programs.proofs.Bits.{bit-first, bit-next}
 use Rattle.sheets.specs.Laws.{Description}
-use Rattle.sheets.specs.Actions.{earlier, all-later, AllLaterAreTheLaterOnes, with-literal}
-use Rattle.sheets.specs.Fits.{positive-below, negative-below}
+use Rattle.sheets.specs.Actions.{earlier, all-later, AllLaterAreTheLaterOnes}
+use Rattle.sheets.specs.Fits.{positive-lt, negative-lt}
 
 -- the bits of a word s places up
 bit-up : (x s i : ℕ) → bit (x * 2 ^ s) (i + s) ≡ bit x i
@@ -60,14 +59,5 @@ all-later-members d X = (
 pub all-later-shifted : (d : Description) (X : LiteralSet) → 2 * d .fluents + d .actions ≤ 64 → Below (d .fluents) X → record { positive = (X .positive * 2 ^ earlier d) % 2 ^ 64; negative = (X .negative * 2 ^ earlier d) % 2 ^ 64 } ≡ all-later d X
 all-later-shifted d X few h =
     ap₂ (λ (p n : ℕ). record { positive = p; negative = n })
-    (shl-exact (d .fluents) (earlier d) 64 (positive-below (d .fluents) X h) (omega arith))
-    (shl-exact (d .fluents) (earlier d) 64 (negative-below (d .fluents) X h) (omega arith))
-
--- `x | 1 << k` in the word of either sign
-pub with-negative-or : (X : LiteralSet) (k : ℕ) (b : Bool) → b ≡ true → k < 64 → record { positive = X .positive; negative = bitOr (X .negative) ((1 * 2 ^ k) % 2 ^ 64) } ≡ with-literal X (record { atom = k; negative = b })
-with-negative-or X k true e h = ap (λ m. record { positive = X .positive; negative = bitOr (X .negative) m }) (one-shl k 64 h)
-with-negative-or X k false e h = absurd (false≢true e)
-
-pub with-positive-or : (X : LiteralSet) (k : ℕ) (b : Bool) → b ≡ false → k < 64 → record { positive = bitOr (X .positive) ((1 * 2 ^ k) % 2 ^ 64); negative = X .negative } ≡ with-literal X (record { atom = k; negative = b })
-with-positive-or X k true e h = absurd (true≢false e)
-with-positive-or X k false e h = ap (λ m. record { positive = bitOr (X .positive) m; negative = X .negative }) (one-shl k 64 h)
+    (shl-exact (d .fluents) (earlier d) 64 (positive-lt (d .fluents) X h) (omega arith))
+    (shl-exact (d .fluents) (earlier d) 64 (negative-lt (d .fluents) X h) (omega arith))

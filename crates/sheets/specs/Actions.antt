@@ -1,14 +1,13 @@
 -- The program that a description of actions stands for. Its atoms: the fluents at time 0, the actions, the fluents at time 1.
 use mathlib.Core.Path.{_≡_}
-use mathlib.Core.Bool.{true, false, cond}
+use mathlib.Core.Bool.{true, false}
 use mathlib.Core.List.{List, [], _∷_, _++_, map}
 use Prim.Native.Nat.{ℕ, _+_, _*_, _^_}
-use lib.Bits.{bitOr}
 use Rattle.std.specs.shelf.Lists.{joined}
 use Rattle.std.specs.Iters.{counting}
 use Rattle.programs.specs.declared.literal.Literal.{Literal}
 use Rattle.programs.specs.declared.literal.LiteralSet.{LiteralSet}
-use Rattle.programs.specs.Literals.{Member}
+use Rattle.programs.specs.Literals.{Member, no-literals, with-literal}
 use Rattle.programs.specs.Programs.{Rule, Program, literals}
 use Rattle.sheets.specs.declared.law.StaticLaw.{StaticLaw}
 use Rattle.sheets.specs.declared.law.DynamicLaw.{DynamicLaw}
@@ -31,17 +30,6 @@ abbrev pub AllLaterAreTheLaterOnes : Description → LiteralSet → Type 0
 AllLaterAreTheLaterOnes d X =
     ((l : Literal) → (Member l X → Member (later d l) (all-later d X)) × (Member (later d l) (all-later d X) → Member l X))
     × ((m : Literal) → Member m (all-later d X) → (l : Literal) × (m ≡ later d l))
-
--- no literal
-abbrev pub no-literals : LiteralSet
-no-literals = record { positive = 0; negative = 0 }
-
--- the set X and the literal l
-abbrev pub with-literal : LiteralSet → Literal → LiteralSet
-with-literal X l = record {
-  positive = cond (l .negative) (X .positive) (bitOr (X .positive) (2 ^ l .atom));
-  negative = cond (l .negative) (bitOr (X .negative) (2 ^ l .atom)) (X .negative);
-}
 
 -- the literal l alone
 abbrev pub only : Literal → LiteralSet

@@ -1,7 +1,7 @@
 -- That a sheet's description fits, and that a description that fits gives a program that fits.
 use mathlib.Core.Path.{_≡_, refl, subst}
-use mathlib.Core.Logic.{∥∥₁-elim, inl, inr}
-use mathlib.Core.HLevel.{Π-prop, ×-prop}
+use mathlib.Core.Logic.{∥∥₁-elim}
+use mathlib.Core.HLevel.{×-prop}
 use mathlib.Core.Bool.{Bool, true, false}
 use mathlib.Core.List.{List, [], _∷_}
 use Prim.Native.Nat.{ℕ, zero, suc, _+_, _*_, _^_, _<_, _≤_}
@@ -17,24 +17,17 @@ use Rattle.std.proofs.shelf.Elements.{all-append, all-map, all-weaker}
 use Rattle.std.proofs.shelf.Lists.{length-take-le}
 use Rattle.programs.specs.declared.literal.Literal.{Literal}
 use Rattle.programs.specs.declared.literal.LiteralSet.{LiteralSet}
-use Rattle.programs.specs.Literals.{Below, bit}
+use Rattle.programs.specs.Literals.{Below, no-literals, with-literal}
 use Rattle.programs.specs.Programs.{Rule, RuleFits, ProgramFits}
-use Rattle.programs.proofs.Bits.{low-word, bit-cases}
-use Rattle.programs.proofs.Sets.{below-of}
+use Rattle.programs.proofs.Bits.{interpretation-below}
+use Rattle.programs.proofs.Props.{below-prop, all-prop}
+use Rattle.programs.proofs.Sets.{below-of, positive-below, negative-below}
 use Rattle.sheets.specs.declared.law.StaticLaw.{StaticLaw}
 use Rattle.sheets.specs.declared.law.DynamicLaw.{DynamicLaw}
 use Rattle.sheets.specs.declared.action_sheet.ActionSheet.{ActionSheet}
 use Rattle.sheets.specs.Laws.{Description, StaticInRange, DynamicInRange, DescriptionFits}
-use Rattle.sheets.specs.Actions.{earlier, later, all-later, no-literals, with-literal, only, derived, both-times, done, effect, stays, may-be, inertia, choice, action-rules, action-program}
+use Rattle.sheets.specs.Actions.{earlier, later, all-later, only, derived, both-times, done, effect, stays, may-be, inertia, choice, action-rules, action-program}
 use Rattle.sheets.specs.Sheets.{description}
-
--- that a law is in range has one proof at most
-below-prop : (n : ℕ) (X : LiteralSet) → IsProp (Below n X)
-below-prop n X = Π-prop (λ l. Π-prop (λ m. le-prop))
-
-all-prop : {A : Type 0} (P : A → Type 0) → ((x : A) → IsProp (P x)) → (xs : List A) → IsProp (All P xs)
-all-prop P one [] = λ a b. refl
-all-prop P one (x ∷ xs) = ×-prop (one x) (all-prop P one xs)
 
 pub sheet-fits : (s : ActionSheet) → DescriptionFits (description s)
 sheet-fits s =
@@ -51,22 +44,19 @@ sheet-fits s =
     }
 
 -- a set of literals below n, word by word
-no-bit : (n x i : ℕ) → n ≤ i → (bit x i ≡ 1 → i < n) → bit x i ≡ 0
-no-bit n x i l h = elim (bit-cases x i) [ inl e ↦ e | inr e ↦ absurd (omega (arith, h e)) ]
+pub positive-lt : (n : ℕ) (X : LiteralSet) → Below n X → X .positive < 2 ^ n
+positive-lt n X h = interpretation-below n (X .positive) (positive-below X n h)
 
-pub positive-below : (n : ℕ) (X : LiteralSet) → Below n X → X .positive < 2 ^ n
-positive-below n X h = low-word n (X .positive) (λ i l. no-bit n (X .positive) i l (h (record { atom = i; negative = false })))
-
-pub negative-below : (n : ℕ) (X : LiteralSet) → Below n X → X .negative < 2 ^ n
-negative-below n X h = low-word n (X .negative) (λ i l. no-bit n (X .negative) i l (h (record { atom = i; negative = true })))
+pub negative-lt : (n : ℕ) (X : LiteralSet) → Below n X → X .negative < 2 ^ n
+negative-lt n X h = interpretation-below n (X .negative) (negative-below X n h)
 
 -- the sets of the rules are below the number of atoms
 none-below : (n : ℕ) → Below n no-literals
 none-below n = below-of no-literals n (pow-pos n) (pow-pos n)
 
 with-below : (n : ℕ) (X : LiteralSet) (b : Bool) (a : ℕ) → a < n → Below n X → Below n (with-literal X (record { atom = a; negative = b }))
-with-below n X true a l h = below-of (with-literal X (record { atom = a; negative = true })) n (positive-below n X h) (or-lt n _ _ (negative-below n X h) (pow-lt l))
-with-below n X false a l h = below-of (with-literal X (record { atom = a; negative = false })) n (or-lt n _ _ (positive-below n X h) (pow-lt l)) (negative-below n X h)
+with-below n X true a l h = below-of (with-literal X (record { atom = a; negative = true })) n (positive-lt n X h) (or-lt n _ _ (negative-lt n X h) (pow-lt l))
+with-below n X false a l h = below-of (with-literal X (record { atom = a; negative = false })) n (or-lt n _ _ (positive-lt n X h) (pow-lt l)) (negative-lt n X h)
 
 only-below : (n : ℕ) (l : Literal) → l .atom < n → Below n (only l)
 only-below n l h = with-below n no-literals (l .negative) (l .atom) h (none-below n)
@@ -82,8 +72,8 @@ shifted-below f e x h =
 later-below : (d : Description) (X : LiteralSet) → Below (d .fluents) X → Below (2 * d .fluents + d .actions) (all-later d X)
 later-below d X h =
     below-of (all-later d X) (2 * d .fluents + d .actions)
-    (shifted-below (d .fluents) (d .actions) (X .positive) (positive-below (d .fluents) X h))
-    (shifted-below (d .fluents) (d .actions) (X .negative) (negative-below (d .fluents) X h))
+    (shifted-below (d .fluents) (d .actions) (X .positive) (positive-lt (d .fluents) X h))
+    (shifted-below (d .fluents) (d .actions) (X .negative) (negative-lt (d .fluents) X h))
 
 -- the four kinds of rule
 derived-fits : (n : ℕ) (l : Literal) (X : LiteralSet) → l .atom < n → Below n X → RuleFits n (derived l X)

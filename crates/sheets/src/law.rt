@@ -1,10 +1,8 @@
 // The laws of an action sheet. A literal of a law is on a fluent, by the fluent's number.
 ghost use Rattle.std.specs.Orderings.{Decides};
-ghost use Rattle.programs.specs.Literals.{Below};
 ghost use Rattle.sheets.specs.Laws.{StaticInRange, DynamicInRange};
 use programs::literal::Literal;
 use programs::literal::LiteralSet;
-use programs::literal::is_interpretation;
 
 // The head holds whenever the condition does.
 #[derive(Clone, Copy)]
@@ -28,19 +26,12 @@ pub enum Law {
     Dynamic(DynamicLaw),
 }
 
-// Whether the set has literals of the first fluents alone.
-fn is_below(fluents: u8, set: LiteralSet) -> bool
-    ensures { λ r. ⌜ Decides r (Below fluents set) ⌝ }
-{
-    is_interpretation(fluents, set.positive) && is_interpretation(fluents, set.negative)
-}
-
 impl StaticLaw {
     // Whether the law speaks of the first fluents alone.
     pub fn in_range(self, fluents: u8) -> bool
         ensures { λ r. ⌜ Decides r (StaticInRange fluents self) ⌝ }
     {
-        self.head.atom < fluents && is_below(fluents, self.condition)
+        self.condition.is_below(fluents) && self.head.atom < fluents
     }
 }
 
@@ -49,6 +40,6 @@ impl DynamicLaw {
     pub fn in_range(self, fluents: u8, actions: u8) -> bool
         ensures { λ r. ⌜ Decides r (DynamicInRange fluents actions self) ⌝ }
     {
-        self.action < actions && self.head.atom < fluents && is_below(fluents, self.condition)
+        self.action < actions && self.head.atom < fluents && self.condition.is_below(fluents)
     }
 }

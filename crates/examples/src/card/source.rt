@@ -10,6 +10,7 @@ ghost use Rattle.programs.specs.Programs.{RuleFits, ProgramFits, rule-of, rule-
 ghost use Rattle.programs.specs.Refusals.{number};
 ghost use Rattle.programs.proofs.Props.{kept-fits};
 ghost use Rattle.examples.specs.Cards.{card-program};
+use crate::card::Card;
 use programs::literal::Literal;
 use programs::literal::LiteralSet;
 use programs::literal::MAX_ATOMS;
@@ -18,7 +19,6 @@ use programs::refusal::Refusal;
 use programs::rule::ClausalRule;
 use programs::rule::MAX_RULES;
 use programs::source::RuleSource;
-use crate::card::Card;
 
 // Whether every literal of every row is on one of so many atoms.
 fn all_below(atoms: u8, rules: &[ClausalRule]) -> bool

@@ -11,8 +11,7 @@ ghost use Rattle.std.specs.shelf.Lists.{joined};
 ghost use Rattle.programs.specs.Literals.{Below};
 ghost use Rattle.programs.specs.Programs.{rule-of, rule-at};
 ghost use Rattle.programs.specs.Refusals.{number};
-ghost use Rattle.programs.specs.Steps.{Added};
-ghost use Rattle.sheets.specs.Actions.{earlier, later, all-later, AllLaterAreTheLaterOnes, with-literal, only, both-times, effect, inertia, choice, action-rules, action-program};
+ghost use Rattle.sheets.specs.Actions.{earlier, later, all-later, AllLaterAreTheLaterOnes, both-times, effect, inertia, choice, action-rules, action-program};
 ghost use Rattle.sheets.specs.Fits.{sheet-fits, program-fits};
 ghost use Rattle.sheets.specs.Laws.{described, StaticInRange, DynamicInRange, DescriptionFits};
 ghost use Rattle.sheets.specs.Sheets.{description};
@@ -56,32 +55,6 @@ fn counts_in_range(fluents: u8, actions: u8, laws: usize) -> bool
 {
     let atoms = 2 * usize::from(fluents) + usize::from(actions);
     fluents >= 1 && atoms <= usize::from(MAX_ATOMS) && laws <= MAX_LAWS
-}
-
-// The set with one literal more.
-fn with_literal(set: LiteralSet, literal: Literal) -> LiteralSet
-    requires { ⌜ literal .atom < 64 ⌝ }
-    ensures { λ r. ⌜ (r ≡ with-literal set literal) × Added set literal r ⌝ }
-{
-    let bit = 1u64 << literal.atom;
-    if literal.negative {
-        return LiteralSet {
-            positive: set.positive,
-            negative: set.negative | bit,
-        };
-    }
-    LiteralSet {
-        positive: set.positive | bit,
-        negative: set.negative,
-    }
-}
-
-// The set that has one literal alone.
-fn only_literal(literal: Literal) -> LiteralSet
-    requires { ⌜ literal .atom < 64 ⌝ }
-    ensures { λ r. ⌜ r ≡ only literal ⌝ }
-{
-    with_literal(LiteralSet::EMPTY, literal)
 }
 
 // The literals by number: each atom, and after it its negation.
@@ -206,9 +179,9 @@ impl ActionSheet {
     }
 
     // Rule i of the dynamic laws: the head at time 1, from the action and the condition at time 0.
-    fn effect_rule(&self, i: usize) -> ClausalRule
+    fn effect_rule(&self, i: usize) -> Result<ClausalRule, Refusal>
         requires { ⌜ i < now self .«dynamic_count» ⌝ }
-        ensures { λ r. ⌜ rule-of r ≡ rule-in (map (effect (description (now (self .entry)))) (description (now (self .entry)) .dynamics)) i ⌝ }
+        ensures { λ r. ⌜ Cases r (λ c. rule-of c ≡ rule-in (map (effect (description (now (self .entry)))) (description (now (self .entry)) .dynamics)) i) (λ e. ⊥) ⌝ }
     {
         let law = self.dynamics[i];
         let head = self.later_literal(law.head);
@@ -216,60 +189,64 @@ impl ActionSheet {
             atom: self.fluents + law.action,
             negative: false,
         };
-        ClausalRule {
+        let premises = law.condition.with(action)?;
+        Ok(ClausalRule {
             head,
-            premises: with_literal(law.condition, action),
+            premises,
             justification: LiteralSet::EMPTY,
-        }
+        })
     }
 
     // Rule i of inertia: a literal at time 1 from itself at time 0, assuming itself at time 1.
-    fn inertia_rule(&self, i: usize) -> ClausalRule
+    fn inertia_rule(&self, i: usize) -> Result<ClausalRule, Refusal>
         requires { ⌜ i < 2 * now self .fluents ⌝ }
-        ensures { λ r. ⌜ rule-of r ≡ rule-in (joined (inertia (description (now (self .entry)))) (counting 0 (now (self .entry) .fluents))) i ⌝ }
+        ensures { λ r. ⌜ Cases r (λ c. rule-of c ≡ rule-in (joined (inertia (description (now (self .entry)))) (counting 0 (now (self .entry) .fluents))) i) (λ e. ⊥) ⌝ }
     {
         let literal = literal_number(i);
         let head = self.later_literal(literal);
-        ClausalRule {
+        let premises = LiteralSet::EMPTY.with(literal)?;
+        let justification = LiteralSet::EMPTY.with(head)?;
+        Ok(ClausalRule {
             head,
-            premises: only_literal(literal),
-            justification: only_literal(head),
-        }
+            premises,
+            justification,
+        })
     }
 
     // Rule i of choice: a literal on a fluent at time 0 or on an action, assuming itself.
-    fn choice_rule(&self, i: usize) -> ClausalRule
+    fn choice_rule(&self, i: usize) -> Result<ClausalRule, Refusal>
         requires { ⌜ i < 2 * (now self .fluents + now self .actions) ⌝ }
-        ensures { λ r. ⌜ rule-of r ≡ rule-in (joined choice (counting 0 (earlier (description (now (self .entry)))))) i ⌝ }
+        ensures { λ r. ⌜ Cases r (λ c. rule-of c ≡ rule-in (joined choice (counting 0 (earlier (description (now (self .entry)))))) i) (λ e. ⊥) ⌝ }
     {
         let literal = literal_number(i);
-        ClausalRule {
+        let justification = LiteralSet::EMPTY.with(literal)?;
+        Ok(ClausalRule {
             head: literal,
             premises: LiteralSet::EMPTY,
-            justification: only_literal(literal),
-        }
+            justification,
+        })
     }
 
-    // Rule i of the sheet: found by where the effects, the inertia and the choices begin.
+    // Rule i of the sheet: static laws, then effects, then inertia, then choices.
     fn rule(&self, i: usize) -> Result<ClausalRule, Refusal>
         ensures { λ r. ⌜ Cases r (λ c. (i < length (action-rules (description (now (self .entry))))) × (rule-of c ≡ rule-at (action-program (description (now (self .entry)))) i)) (λ e. (length (action-rules (description (now (self .entry)))) ≤ i) × (number e ≡ 6)) ⌝ }
     {
         let fluents = usize::from(self.fluents);
         let actions = usize::from(self.actions);
-        let effects = 2 * self.static_count;
-        let inertia = effects + self.dynamic_count;
-        let choices = inertia + 2 * fluents;
-        if i < effects {
+        let first_effect = 2 * self.static_count;
+        let first_inertia = first_effect + self.dynamic_count;
+        let first_choice = first_inertia + 2 * fluents;
+        if i < first_effect {
             return Ok(self.static_rule(i));
         }
-        if i < inertia {
-            return Ok(self.effect_rule(i - effects));
+        if i < first_inertia {
+            return self.effect_rule(i - first_effect);
         }
-        if i < choices {
-            return Ok(self.inertia_rule(i - inertia));
+        if i < first_choice {
+            return self.inertia_rule(i - first_inertia);
         }
-        if i < choices + 2 * (fluents + actions) {
-            return Ok(self.choice_rule(i - choices));
+        if i < first_choice + 2 * (fluents + actions) {
+            return self.choice_rule(i - first_choice);
         }
         Err(Refusal::OutOfRange)
     }

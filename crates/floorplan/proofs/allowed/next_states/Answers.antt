@@ -27,13 +27,13 @@ loop-state-again g c =
     let at : bitOr known ((n * 2 ^ 16) % 2 ^ 64) ≡ followed-by known n = ap (bitOr known) (shl-whole n 9 16 64 (omega arith) (omega arith)) in
     let decides = c .in-Continue-check .ensures tt .1 in
     elim (c .if-branch .came) [
-      then-branch·in-Continue-push w ↦
-        let items : vec-items (c .if-branch .states) ≡ states ++ n ∷ [] = search needs in
-        subst (NextStates p known (n + 1)) (sym items)
+      | then-branch·in-Continue-push w ↦
+          let items : vec-items (c .if-branch .states) ≡ states ++ n ∷ [] = search needs in
+          subst (NextStates p known (n + 1)) (sym items)
           (next-pushed p known n states (subst (Model p) at (decides .0 (w .if-branch .taken))) (c .loop-state .inv))
-    | else-branch w ↦
-        let items : vec-items (c .if-branch .states) ≡ states = ap vec-items (w .states-is) in
-        subst (NextStates p known (n + 1)) (sym items)
+      | else-branch w ↦
+          let items : vec-items (c .if-branch .states) ≡ states = ap vec-items (w .states-is) in
+          subst (NextStates p known (n + 1)) (sym items)
           (next-skipped p known n states (λ m. false≢true (sym (w .if-branch .left) ∙ decides .1 (subst (Model p) (sym at) m))) (c .loop-state .inv))
     ]
 

@@ -13,11 +13,10 @@ returns g c =
     let X : LiteralSet = record { positive = c .in-Continue-positive .positive; negative = c .in-Continue-positive .negative } in
     let closure = c .in-Continue-positive .ensures tt in
     let test = same-test (c .eq .result) X (c .in-Continue-own .own) (c .eq .ensures) in
-    let own = c .in-Continue-own .ensures tt .2 ∙ ap (λ n. literals-of n w) (c .atoms .ensures) in
-    (
+    let own = c .in-Continue-own .ensures tt .2 ∙ ap (λ n. literals-of n w) (c .atoms .ensures) in (
       closure .0,
       (
         λ e. record { interpretation = closure .0; smallest = subst (λ Y. Smallest R Y) (test .0 e ∙ own) (closure .1) },
-        λ m. test .1 (smallest-same R X (literals-of (p .atoms) w) (closure .1) (m .smallest) ∙ sym own)
-      )
+        λ m. test .1 (smallest-same R X (literals-of (p .atoms) w) (closure .1) (m .smallest) ∙ sym own),
+      ),
     )

@@ -17,14 +17,13 @@ returns-then-not-is-interpretation g c =
 
 pub rounds-holds : need.rounds-holds
 rounds-holds g c =
-    let w = c .args .interpretation in
-    (
+    let w = c .args .interpretation in (
       subst (λ (n : ℕ). Interpretation n w) (c .atoms .ensures) (c .if-not-is-interpretation .ensures tt .0 refl),
       c .in-Continue-mark-reduct .ensures tt,
       omega arith,
       λ Y _. empty-subset Y,
       omega arith,
-      omega arith
+      omega arith,
     )
 
 pub rounds-less : need.rounds-less
@@ -32,7 +31,7 @@ rounds-less g c =
     let X = c .rounds .derived in
     let Y = c .in-Continue-grown .grown in
     let grew = more-literals X Y (omega arith) (omega arith) (omega arith) (omega arith) (c .in-Continue-grown .ensures tt .kept)
-      (λ e. false≢true (same-test _ Y X (c .if-eq .ensures tt) .1 e)) in
+    (λ e. false≢true (same-test _ Y X (c .if-eq .ensures tt) .1 e)) in
     omega (arith, grew, ones-le 64 (Y .positive) (omega arith), ones-le 64 (Y .negative) (omega arith))
 
 pub rounds-again : need.rounds-again

@@ -2,9 +2,8 @@ use mathlib.Core.Path.{refl, ap, subst}
 use native.Mathlib.Omega.{arith}
 use Rattle.std.proofs.shelf.Elements.{all-getD}
 use Rattle.std.proofs.shelf.Results.{cases-weaker}
-use Rattle.programs.specs.Literals.{Subset}
+use Rattle.programs.specs.Literals.{Subset, Added}
 use Rattle.programs.specs.Programs.{RuleFits, rule-at, no-rule}
-use Rattle.programs.specs.Steps.{Added}
 use Rattle.programs.proofs.Closures.{fired-added}
 use Rattle.programs.proofs.closure.fire.Needs as need
 
@@ -18,5 +17,5 @@ returns-then-includes g c =
     let has = subst (λ P. Subset P X) (c .in-Continue-premises .ensures tt .1) (c .if-includes .ensures tt .0 refl) in
     let below = all-getD (RuleFits (p .atoms)) (p .rules) (c .args .i) no-rule (head .0) (f .each) in
     cases-weaker (c .with .result) (c .with .ensures)
-      (λ Y a. fired-added r X Y has (subst (λ l. Added X l Y) (head .1) (a .1)))
-      (λ e a. absurd (omega (arith, a .0, below .head, f .few, ap (λ l. l .atom) (head .1))))
+    (λ Y a. fired-added r X Y has (subst (λ l. Added X l Y) (head .1) (a .2)))
+    (λ e a. absurd (omega (arith, a .0, below .head, f .few, ap (λ l. l .atom) (head .1))))

@@ -13,13 +13,12 @@ loop-i-again g c =
     let i = c .loop-i .i in
     let X = c .args .derived in
     let Y = c .loop-i .grown in
-    let before = c .loop-i .inv .1 in
-    (
+    let before = c .loop-i .inv .1 in (
       omega arith,
       elim (c .if-marks-i .came) [
-        then-marks-i·in-Continue-grown w ↦
-          subst (λ Z. Grown p table (i + 1) X Z) (sym (w .grown-is))
+        | then-marks-i·in-Continue-grown w ↦
+            subst (λ Z. Grown p table (i + 1) X Z) (sym (w .grown-is))
             (grown-fired p table i X Y (w .in-Continue-grown .grown) (omega arith) (w .if-marks-i .taken) before (w .in-Continue-grown .ensures tt))
-      | else-marks-i w ↦ subst (λ Z. Grown p table (i + 1) X Z) (sym (w .grown-is)) (grown-skipped p table i X Y (w .if-marks-i .left) before)
-      ]
+        | else-marks-i w ↦ subst (λ Z. Grown p table (i + 1) X Z) (sym (w .grown-is)) (grown-skipped p table i X Y (w .if-marks-i .left) before)
+      ],
     )

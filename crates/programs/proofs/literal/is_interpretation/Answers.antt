@@ -9,8 +9,7 @@ returns-then-atoms-ge-MAX-ATOMS c = (λ _ i l. bit-high (c .args .word) 64 i (om
 pub returns-else-atoms-ge-MAX-ATOMS : need.returns-else-atoms-ge-MAX-ATOMS
 returns-else-atoms-ge-MAX-ATOMS c =
     let n = c .args .atoms in
-    let w = c .args .word in
-    (
+    let w = c .args .word in (
       λ e. below-interpretation n w (shifted-out n w (eqb-true _ _ e)),
-      λ h. eq-eqb _ _ (shifts-out n w (interpretation-below n w h))
+      λ h. eq-eqb _ _ (shifts-out n w (interpretation-below n w h)),
     )

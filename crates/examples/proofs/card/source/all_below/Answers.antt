@@ -1,5 +1,4 @@
 use mathlib.Core.Path.{refl, subst}
-use native.Mathlib.Omega.{arith}
 use lib.Seq.{take-all}
 use Rattle.std.specs.shelf.Lists.{All}
 use Rattle.std.proofs.shelf.Elements.{all-getD, all-more}
@@ -10,10 +9,9 @@ use Rattle.examples.proofs.card.source.all_below.Needs as need
 pub returns-then-not-is-below : need.returns-then-not-is-below
 returns-then-not-is-below c =
     let n = c .args .atoms in
-    let rows = c .args .rules .now in
-    (
+    let rows = c .args .rules .now in (
       λ e. absurd (false≢true e),
-      λ h. c .if-not-is-below .ensures tt .1 (all-getD (RowFits n) rows (c .loop-rule .rule-index) _ (c .loop-rule-test .taken) (rows-of-map n rows h))
+      λ h. c .if-not-is-below .ensures tt .1 (all-getD (RowFits n) rows (c .loop-rule .rule-index) _ (c .loop-rule-test .taken) (rows-of-map n rows h)),
     )
 
 pub loop-rule-again : need.loop-rule-again

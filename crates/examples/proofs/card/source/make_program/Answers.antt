@@ -12,8 +12,7 @@ returns c =
 
 pub returns-then-atoms-lt1 : need.returns-then-atoms-lt1
 returns-then-atoms-lt1 c =
-    let long = length-map (c .args .rules .now) rule-of in
-    (
+    let long = length-map (c .args .rules .now) rule-of in (
       λ e. absurd (false≢true e),
-      λ h. absurd (omega (arith, c .then-atoms-lt1 .either, h .some, h .few, h .short, long))
+      λ h. absurd (omega (arith, c .then-atoms-lt1 .either, h .some, h .few, h .short, long)),
     )

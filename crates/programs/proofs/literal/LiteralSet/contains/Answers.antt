@@ -1,5 +1,4 @@
 use mathlib.Core.Path.{sym, ap, _∙_}
-use Prim.Native.Nat.{_<_}
 use native.Mathlib.Omega.{arith}
 use Rattle.std.proofs.shelf.Tests.{ltb-true, eqb-true, eq-eqb}
 use Rattle.programs.specs.Literals.{bit}
@@ -15,8 +14,7 @@ returns-then-literal-lt-MAX-ATOMS c =
 
 pub returns-else-literal-lt-MAX-ATOMS : need.returns-else-literal-lt-MAX-ATOMS
 returns-else-literal-lt-MAX-ATOMS c =
-    let l = c .args .literal in
-    (
+    let l = c .args .literal in (
       λ e. absurd (omega (arith, ltb-true (l .atom) 64 e)),
-      λ m. absurd (omega (arith, below-of (c .args .self) 64 (omega arith) (omega arith) l m))
+      λ m. absurd (omega (arith, below-of (c .args .self) 64 (omega arith) (omega arith) l m)),
     )

@@ -11,9 +11,9 @@ use Rattle.programs.proofs.literal.LiteralSet.of_interpretation.Needs.{then-at
 pub returns-then-atoms-gt-MAX-ATOMS : need.returns-then-atoms-gt-MAX-ATOMS
 returns-then-atoms-gt-MAX-ATOMS c =
     elim (c .then-atoms-gt-MAX-ATOMS .came) [
-      then-atoms-gt-MAX-ATOMS·by·then-atoms-gt-MAX-ATOMS w ↦ (inl (w .if-atoms-gt-MAX-ATOMS .taken), refl)
-    | then-atoms-gt-MAX-ATOMS·by·else-atoms-gt-MAX-ATOMS·then-not-is-interpretation w ↦
-        (inr (not-interpretation (c .args .atoms) (c .args .word) (λ h. false≢true (w .if-not-is-interpretation .ensures tt .1 h))), refl)
+      | then-atoms-gt-MAX-ATOMS·by·then-atoms-gt-MAX-ATOMS w ↦ (inl (w .if-atoms-gt-MAX-ATOMS .taken), refl)
+      | then-atoms-gt-MAX-ATOMS·by·else-atoms-gt-MAX-ATOMS·then-not-is-interpretation w ↦
+          (inr (not-interpretation (c .args .atoms) (c .args .word) (λ h. false≢true (w .if-not-is-interpretation .ensures tt .1 h))), refl)
     ]
 
 pub sub-result : need.sub-result

@@ -8,5 +8,5 @@ pub returns : need.returns
 returns c =
     let s = c .args .self .now in
     let literal = c .literal-number-literal .ensures in
-    same-rule _ _ _ _ _ _ literal refl (c .only-literal .ensures ∙ ap only literal)
+    same-rule _ _ _ _ _ _ literal refl (c .in-Continue-justification .ensures tt .1 ∙ ap only literal)
     ∙ sym (getD-ways may-be (s .fluents + s .actions) (c .args .i) _ (c .pre))

@@ -10,10 +10,13 @@ later-literal-head-requires c κs = dynamic-in-range (c .args .self .now) (c .ar
 pub add-action : need.add-action
 add-action c = let h = dynamic-in-range (c .args .self .now) (c .args .i) no-dynamic (c .pre) .0 in omega arith
 
-pub with-literal-requires : need.with-literal-requires
-with-literal-requires c κs = let h = dynamic-in-range (c .args .self .now) (c .args .i) no-dynamic (c .pre) .0 in omega arith
+pub returns-in-Break-premises : need.returns-in-Break-premises
+returns-in-Break-premises c =
+    let h = dynamic-in-range (c .args .self .now) (c .args .i) no-dynamic (c .pre) .0 in
+    let refused = c .in-Break-premises .ensures tt .0 in
+    absurd (omega arith)
 
 pub returns : need.returns
 returns c =
-    same-rule _ _ _ _ _ _ (c .later-literal-head .ensures) (c .with-literal .ensures .0) refl
+    same-rule _ _ _ _ _ _ (c .later-literal-head .ensures) (c .in-Continue-premises .ensures tt .1) refl
     ∙ sym (effect-at (c .args .self .now) (c .args .i) no-dynamic (c .pre))

@@ -9,5 +9,5 @@ returns c =
     let s = c .args .self .now in
     let literal = c .literal-number-literal .ensures in
     let head = c .later-literal-head .ensures ∙ ap (later (description s)) literal in
-    same-rule _ _ _ _ _ _ head (c .only-literal .ensures ∙ ap only literal) (c .only-literal-2 .ensures ∙ ap only head)
+    same-rule _ _ _ _ _ _ head (c .in-Continue-premises .ensures tt .1 ∙ ap only literal) (c .in-Continue-justification .ensures tt .1 ∙ ap only head)
     ∙ sym (getD-ways (stays (description s)) (s .fluents) (c .args .i) _ (c .pre))
