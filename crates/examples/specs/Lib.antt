@@ -1,2 +1,2 @@
-pub mod Cards
-pub mod Quorums
+pub mod Tables
+pub mod Eithers

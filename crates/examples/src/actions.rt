@@ -97,7 +97,7 @@ fn rules_of_a_sheet() -> Result<(), Fail> {
     check_eq(sheet.holds_in(12, 27), Ok(true))
 }
 
-// Nothing holds, with and without send; issued stays; issued and sent; on site stays, with and without send.
+// Nothing holds, without send and with it; issued, not sent; on site, without send; issued and sent; on site, with send.
 #[test]
 fn models_of_a_sheet() -> Result<(), Fail> {
     let sheet = ActionSheet::new(2, 1, &LAWS)?;

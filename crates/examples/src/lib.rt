@@ -1,7 +1,7 @@
 // Worked examples: small programs with all their models, and rule sources of the examples' own.
 #[cfg(test)]
 mod actions;
-pub mod card;
+pub mod either;
 #[cfg(test)]
 mod models;
-pub mod quorum;
+pub mod rule_table;

@@ -1,34 +1,57 @@
 // Which states the laws allow next.
-ghost use Rattle.std.specs.Of.Vec.{vec-items};
-ghost use Rattle.std.specs.Vec.{made};
-ghost use Rattle.floorplan.specs.Next.{NextStates};
+ghost use Rattle.std.specs.Orderings.{Decides};
+ghost use Rattle.floorplan.specs.Next.{AnswersNext, FirstMarked, NoneAfter};
+use crate::project::ACTION_COUNT;
+use crate::project::FLUENT_COUNT;
 use programs::closure::check;
-use programs::refusal::RefusalDebug;
-use programs::refusal::RefusalDisplay;
-use programs::refusal::RefusalError;
+use programs::refusal::Refusal;
 use programs::source::RuleSource;
-use std::alloc::Global;
-use std::error::AnyError;
 
-// The place of the first fluent at time 1, after nine fluents at time 0 and seven actions.
-const LATER: u8 = 16;
+// The number of states of so many fluents.
+pub const STATES: usize = 1 << FLUENT_COUNT;
 
-// The number of states of nine fluents.
-const STATES: u64 = 512;
+// The place of the first fluent at time 1, after the fluents at time 0 and the actions.
+const LATER: u8 = FLUENT_COUNT + ACTION_COUNT;
 
-// Every state at time 1 that makes a model with what is known of time 0 and the actions, in rising order.
+// Of every state, whether it may follow a state when an action is taken.
 pub fn next_states<S: RuleSource>(
-    heap: Global,
     source: &S,
-    known: u64,
-) -> Result<Vec<u64>, AnyError>
-    ensures { λ r. ⌜ made r (λ states. NextStates (program (now (source .entry))) known 512 (vec-items states)) ⌝ }
+    before: usize,
+    action: u8,
+) -> Result<[bool; STATES], Refusal>
+    ensures { λ r. ⌜ AnswersNext (program (now (source .entry))) before action r ⌝ }
 {
-    let mut states = Vec::new(heap);
-    for state in 0..STATES {
-        if check(source, known | state << LATER)? {
-            states.push(state)?;
+    if before >= STATES || action >= ACTION_COUNT {
+        return Err(Refusal::OutOfRange);
+    }
+    let known = before as u64 | 1 << (FLUENT_COUNT + action);
+    let mut allowed = [false; STATES];
+    for after in 0..STATES {
+        allowed[after] = check(source, known | (after as u64) << LATER)?;
+    }
+    Ok(allowed)
+}
+
+// The first state that is allowed.
+pub fn first_allowed(allowed: &[bool]) -> Option<usize>
+    ensures { λ r. ⌜ FirstMarked (now (allowed .entry)) r ⌝ }
+{
+    for (state, is_allowed) in allowed.iter().enumerate() {
+        if *is_allowed {
+            return Some(state);
         }
     }
-    Ok(states)
+    None
+}
+
+// Whether no state after one is allowed.
+pub fn none_after(allowed: &[bool], one: usize) -> bool
+    ensures { λ r. ⌜ Decides r (NoneAfter (now (allowed .entry)) one) ⌝ }
+{
+    for (state, is_allowed) in allowed.iter().enumerate() {
+        if *is_allowed && state > one {
+            return false;
+        }
+    }
+    true
 }

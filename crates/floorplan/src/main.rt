@@ -1,11 +1,8 @@
 // Follows one sheet of a building project, A-104, from the drafter's laptop to the archive: at each move it asks which
 // states the project's laws allow next, and at hand-over it writes the archive entry.
-ghost use mathlib.Core.Path.{_≡_};
-ghost use mathlib.Core.Bool.{cond};
-ghost use Prim.Native.Nat.{_+_, _^_};
-ghost use lib.Dec.{ltb};
-ghost use lib.ListN.{getD};
+use crate::allowed::first_allowed;
 use crate::allowed::next_states;
+use crate::allowed::none_after;
 use crate::project::ACTION_COUNT;
 use crate::project::ACTIONS;
 use crate::project::ARCHIVE;
@@ -37,12 +34,13 @@ fn follow(rt: &LibcRuntime) -> Result<(), AnyError> {
     println!(rt, "SHEET A-104, from the drafter's laptop to the archive")?;
     println!(
         rt,
-        "Each block has the state of the sheet, the action that is tried, and every state that the"
+        "Each block says where an action is tried, and has the state of the sheet (what is not named"
     )?;
     println!(
         rt,
-        "project's laws allow next. Of several the first is taken; where there is none, nothing is done."
+        "does not hold), the action, and every state that the project's laws allow next. Of several the"
     )?;
+    println!(rt, "first is taken; where there is none, nothing is done.")?;
     let mut state = 0;
     for step in MOVES {
         state = make_move(rt, &sheet, state, step)?;
@@ -50,13 +48,13 @@ fn follow(rt: &LibcRuntime) -> Result<(), AnyError> {
     Ok(())
 }
 
-// Tells which states may follow a move, and answers the state that it leaves.
+// Tells which states may follow a move, and answers the state that it leaves: the first of them, or the same as before.
 fn make_move(
     rt: &LibcRuntime,
     sheet: &ActionSheet,
-    state: u64,
+    state: usize,
     step: Move,
-) -> Result<u64, AnyError> {
+) -> Result<usize, AnyError> {
     let place = step.place;
     let action = action_name(step.action);
     println!(rt, "")?;
@@ -64,34 +62,16 @@ fn make_move(
     print!(rt, "  state:      ")?;
     print_state(rt, state)?;
     println!(rt, "  action:     {action}")?;
-    let next = next_states(rt.alloc(), sheet, state | action_bit(step.action))?;
-    print_next(rt, next.as_slice())?;
-    let after = first_or(next.as_slice(), state);
-    if step.action == ARCHIVE && !next.is_empty() {
-        print_entry(rt, state, after, next.len())?;
+    let allowed = next_states(sheet, state, step.action)?;
+    print_allowed(rt, &allowed)?;
+    let Some(found) = first_allowed(&allowed) else {
+        println!(rt, "  may follow: no state at all")?;
+        return Ok(state);
+    };
+    if step.action == ARCHIVE {
+        print_entry(rt, state, found, none_after(&allowed, found))?;
     }
-    Ok(after)
-}
-
-// The first of the states, or another where there is none.
-fn first_or(states: &[u64], other: u64) -> u64
-    ensures { λ r. ⌜ r ≡ getD (now (states .entry)) 0 other ⌝ }
-{
-    match states {
-        [first, ..] => *first,
-        [] => other,
-    }
-}
-
-// The atom of an action: actions stand after the fluents at time 0.
-fn action_bit(action: u8) -> u64
-    ensures { λ r. ⌜ r ≡ cond (ltb action 7) (2 ^ (9 + action)) 0 ⌝ }
-{
-    if action < ACTION_COUNT {
-        1 << (FLUENT_COUNT + action)
-    } else {
-        0
-    }
+    Ok(found)
 }
 
 fn action_name(action: u8) -> &'static str {
@@ -108,27 +88,28 @@ fn fluent_name(fluent: u8) -> &'static str {
     }
 }
 
-fn print_next(rt: &LibcRuntime, next: &[u64]) -> io::Result<()> {
-    if next.is_empty() {
-        return println!(rt, "  may follow: no state at all");
-    }
-    for (i, state) in next.iter().enumerate() {
-        print!(
-            rt,
-            "{}",
-            if i == 0 {
-                "  may follow: "
-            } else {
-                "          or: "
-            }
-        )?;
-        print_state(rt, *state)?;
+fn print_allowed(rt: &LibcRuntime, allowed: &[bool]) -> io::Result<()> {
+    let mut first = true;
+    for (state, is_allowed) in allowed.iter().enumerate() {
+        if *is_allowed {
+            print!(
+                rt,
+                "{}",
+                if first {
+                    "  may follow: "
+                } else {
+                    "          or: "
+                }
+            )?;
+            print_state(rt, state)?;
+            first = false;
+        }
     }
     Ok(())
 }
 
 // What the archive keeps of the hand-over.
-fn print_entry(rt: &LibcRuntime, before: u64, found: u64, count: usize) -> io::Result<()> {
+fn print_entry(rt: &LibcRuntime, before: usize, found: usize, only: bool) -> io::Result<()> {
     println!(rt, "")?;
     println!(rt, "ARCHIVE ENTRY, sheet A-104, at the action archive")?;
     println!(rt, "  laws:")?;
@@ -139,14 +120,14 @@ fn print_entry(rt: &LibcRuntime, before: u64, found: u64, count: usize) -> io::R
     print_state(rt, before)?;
     print!(rt, "  state found:  ")?;
     print_state(rt, found)?;
-    if count == 1 {
+    if only {
         return println!(rt, "  No further state was allowed.");
     }
     println!(rt, "  Further states were allowed.")
 }
 
 // The fluents that are true in a state.
-fn print_state(rt: &LibcRuntime, state: u64) -> io::Result<()> {
+fn print_state(rt: &LibcRuntime, state: usize) -> io::Result<()> {
     if state == 0 {
         return println!(rt, "nothing holds yet");
     }

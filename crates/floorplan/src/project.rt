@@ -9,7 +9,7 @@ pub const FLUENT_COUNT: u8 = 9;
 
 pub const ACTION_COUNT: u8 = 7;
 
-pub const FLUENTS: [&str; 9] = [
+pub const FLUENTS: [&str; FLUENT_COUNT as usize] = [
     "drafted",
     "filed",
     "checked",
@@ -39,7 +39,7 @@ const SUPERSEDED: u8 = 7;
 
 const ARCHIVED: u8 = 8;
 
-pub const ACTIONS: [&str; 7] = [
+pub const ACTIONS: [&str; ACTION_COUNT as usize] = [
     "draft",
     "file",
     "review",

@@ -5,6 +5,7 @@ use mathlib.Core.Bool.{Bool, true, false, cond}
 use Prim.Native.Nat.{ℕ, _-_, _*_, _%_, _^_, _<_}
 use native.Mathlib.Omega.{arith}
 use lib.Bits.{bitOr}
+use lib.Pow.{pow-pos}
 use Rattle.std.proofs.shelf.Tests.{true≢false, false≢true}
 use Rattle.std.proofs.shelf.Bits.{one-shl}
 use Rattle.programs.specs.declared.literal.Literal.{Literal}
@@ -122,3 +123,6 @@ negative-below X n b i l =
 
 pub words-below : (X : LiteralSet) (n : ℕ) → Interpretation n (X .positive) → Interpretation n (X .negative) → Below n X
 words-below X n p q = below-of X n (interpretation-below n (X .positive) p) (interpretation-below n (X .negative) q)
+
+pub none-below : (n : ℕ) → Below n no-literals
+none-below n = below-of no-literals n (pow-pos n) (pow-pos n)

@@ -33,7 +33,7 @@ with-literal X l = record {
   negative = cond (l .negative) (bitOr (X .negative) (2 ^ l .atom)) (X .negative);
 }
 
--- what those two words hold: Y is the smallest set that has the literals of X and the literal l
+-- what `with-literal X l` is: the smallest set Y that has the literals of X and the literal l
 pub record Added (X : LiteralSet) (l : Literal) (Y : LiteralSet) : Type 0 where
   pub has : Member l Y
   pub kept : Subset X Y
@@ -63,7 +63,7 @@ AllTrue X w = (l : Literal) → Member l X → TrueIn l w
 abbrev pub literals-of : ℕ → ℕ → LiteralSet
 literals-of n w = record { positive = w; negative = 2 ^ n - 1 - w }
 
--- what those two words hold: exactly the literals on atoms below n that are true in w
+-- what `literals-of n w` holds: exactly the literals on atoms below n that are true in w
 abbrev pub LiteralsOfAreTheTrueOnes : ℕ → ℕ → Type 0
 LiteralsOfAreTheTrueOnes n w =
     (l : Literal) → (Member l (literals-of n w) → (l .atom < n) × TrueIn l w) × ((l .atom < n) × TrueIn l w → Member l (literals-of n w))

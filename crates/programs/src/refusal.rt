@@ -1,6 +1,7 @@
 // Why a call is refused.
 ghost use mathlib.Core.Path.{_≡_};
-ghost use Rattle.programs.specs.Refusals.{number};
+ghost use Rattle.std.specs.declared.option.Option.the-variants.{Some};
+ghost use Rattle.programs.specs.Refusals.{number, words};
 use std::error::Error;
 use std::fmt;
 
@@ -22,9 +23,12 @@ impl Refusal {
 }
 
 pub impl fmt::Display for Refusal as RefusalDisplay {
+    ghost shown = { λ x. Some (words x) };
+
     fn fmt<W: fmt::Write>(&self, f: &mut fmt::Formatter<W>) -> fmt::Result {
-        let code = self.code();
-        write!(f, "refused with {code}: a number is out of range")
+        match self {
+            Refusal::OutOfRange => f.write_str("refused with 6, out of range"),
+        }
     }
 }
 

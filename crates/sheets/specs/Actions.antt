@@ -25,7 +25,7 @@ later d l = record { atom = l .atom + earlier d; negative = l .negative }
 abbrev pub all-later : Description → LiteralSet → LiteralSet
 all-later d X = record { positive = X .positive * 2 ^ earlier d; negative = X .negative * 2 ^ earlier d }
 
--- what those two words hold: a literal at time 1 exactly where X has it at time 0, and nothing else
+-- what `all-later d X` holds: a literal at time 1 exactly where X has it at time 0, and nothing else
 abbrev pub AllLaterAreTheLaterOnes : Description → LiteralSet → Type 0
 AllLaterAreTheLaterOnes d X =
     ((l : Literal) → (Member l X → Member (later d l) (all-later d X)) × (Member (later d l) (all-later d X) → Member l X))

@@ -8,7 +8,7 @@ use Prim.Native.Nat.{ℕ, zero, suc, _+_, _*_, _^_, _<_, _≤_}
 use native.Mathlib.Bridge.{le-prop}
 use native.Mathlib.Omega.{arith}
 use lib.Bits.{or-lt}
-use lib.Pow.{pow-lt, pow-pos, shl-lt}
+use lib.Pow.{pow-lt, shl-lt}
 use lib.ListN.{length, length-append, length-map}
 use Rattle.std.specs.shelf.Lists.{All, joined}
 use Rattle.std.specs.Iters.{counting}
@@ -21,7 +21,7 @@ use Rattle.programs.specs.Literals.{Below, no-literals, with-literal}
 use Rattle.programs.specs.Programs.{Rule, RuleFits, ProgramFits}
 use Rattle.programs.proofs.Bits.{interpretation-below}
 use Rattle.programs.proofs.Props.{below-prop, all-prop}
-use Rattle.programs.proofs.Sets.{below-of, positive-below, negative-below}
+use Rattle.programs.proofs.Sets.{below-of, none-below, positive-below, negative-below}
 use Rattle.sheets.specs.declared.law.StaticLaw.{StaticLaw}
 use Rattle.sheets.specs.declared.law.DynamicLaw.{DynamicLaw}
 use Rattle.sheets.specs.declared.action_sheet.ActionSheet.{ActionSheet}
@@ -51,9 +51,6 @@ pub negative-lt : (n : ℕ) (X : LiteralSet) → Below n X → X .negative < 2 ^
 negative-lt n X h = interpretation-below n (X .negative) (negative-below X n h)
 
 -- the sets of the rules are below the number of atoms
-none-below : (n : ℕ) → Below n no-literals
-none-below n = below-of no-literals n (pow-pos n) (pow-pos n)
-
 with-below : (n : ℕ) (X : LiteralSet) (b : Bool) (a : ℕ) → a < n → Below n X → Below n (with-literal X (record { atom = a; negative = b }))
 with-below n X true a l h = below-of (with-literal X (record { atom = a; negative = true })) n (positive-lt n X h) (or-lt n _ _ (negative-lt n X h) (pow-lt l))
 with-below n X false a l h = below-of (with-literal X (record { atom = a; negative = false })) n (or-lt n _ _ (positive-lt n X h) (pow-lt l)) (negative-lt n X h)
@@ -106,7 +103,7 @@ stays-fits d l h =
 may-be-fits : (n : ℕ) (l : Literal) → l .atom < n → RuleFits n (may-be l)
 may-be-fits n l h = record { head = h; premises = none-below n; justification = only-below n l h }
 
--- lists made of pairs
+-- joined lists and counted ones
 all-joined : {X A : Type 0} (P : A → Type 0) (f : X → List A) (xs : List X) → All (λ x. All P (f x)) xs → All P (joined f xs)
 all-joined P f [] h = tt
 all-joined P f (x ∷ xs) h = all-append P (f x) (joined f xs) (h .0) (all-joined P f xs (h .1))

@@ -32,11 +32,11 @@ dynamics-of (Dynamic law ∷ laws) = law ∷ dynamics-of laws
 abbrev pub described : ℕ → ℕ → List Law → Description
 described f e laws = record { fluents = f; actions = e; statics = statics-of laws; dynamics = dynamics-of laws }
 
--- the law speaks of the first f fluents alone
+-- every literal of the law is on a fluent below f
 abbrev pub StaticInRange : ℕ → StaticLaw → Type 0
 StaticInRange f law = (law .head .atom < f) × Below f (law .condition)
 
--- the law speaks of the first f fluents and the first e actions alone
+-- the action of the law is below e, and every literal of it is on a fluent below f
 abbrev pub DynamicInRange : ℕ → ℕ → DynamicLaw → Type 0
 DynamicInRange f e law = (law .action < e) × (law .head .atom < f) × Below f (law .condition)
 

@@ -27,7 +27,7 @@ pub enum Law {
 }
 
 impl StaticLaw {
-    // Whether the law speaks of the first fluents alone.
+    // Whether every literal of the law is on one of so many fluents.
     pub fn in_range(self, fluents: u8) -> bool
         ensures { λ r. ⌜ Decides r (StaticInRange fluents self) ⌝ }
     {
@@ -36,7 +36,7 @@ impl StaticLaw {
 }
 
 impl DynamicLaw {
-    // Whether the law speaks of the first actions and fluents alone.
+    // Whether the law is on one of so many actions, and every literal of it on one of so many fluents.
     pub fn in_range(self, fluents: u8, actions: u8) -> bool
         ensures { λ r. ⌜ Decides r (DynamicInRange fluents actions self) ⌝ }
     {

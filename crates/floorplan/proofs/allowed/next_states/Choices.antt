@@ -1,6 +1,7 @@
-use Rattle.std.specs.Of.Vec.{vec-items}
-use Rattle.floorplan.specs.Next.{NextStates}
+use mathlib.Core.Path.{_≡_}
+use lib.ListN.{length}
+use Rattle.floorplan.specs.Next.{Marks}
 use Rattle.floorplan.proofs.allowed.next_states.Given as given
 
-abbrev pub Inv-loop-state : given.InvT-loop-state
-Inv-loop-state g l = NextStates (g .S·RuleSource .program (l .source)) (l .known) (l .state) (vec-items (l .states))
+abbrev pub Inv-loop-after : given.InvT-loop-after
+Inv-loop-after g l = Marks (g .S·RuleSource .program (l .source)) (l .before) (l .action) (l .after) (l .allowed) × (length (l .allowed) ≡ 512)
