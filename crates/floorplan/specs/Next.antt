@@ -12,7 +12,7 @@ use Rattle.std.specs.Results.{Cases}
 use Rattle.std.specs.declared.option.Option.{Option}
 use Rattle.std.specs.declared.result.Result.{Result}
 use Rattle.programs.specs.declared.refusal.Refusal.{Refusal}
-use Rattle.programs.specs.Literals.{BitBeyond}
+use Rattle.programs.specs.Literals.{Interpretation, BitBeyond}
 use Rattle.programs.specs.Programs.{Program, Model}
 use Rattle.programs.specs.Refusals.{number}
 
@@ -20,9 +20,10 @@ use Rattle.programs.specs.Refusals.{number}
 abbrev pub step : ℕ → ℕ → ℕ → ℕ
 step before action after = bitOr (bitOr before (2 ^ (9 + action))) (after * 2 ^ 16)
 
--- entry s of the table says whether the step to the state s is a model, for the states below a limit
+-- for the states below a limit: the step to the state s is an interpretation, and entry s of the table says whether it is a model
 abbrev pub Marks : Program → ℕ → ℕ → ℕ → List Bool → Type 0
-Marks p before action limit table = (s : ℕ) → s < limit → Decides (getD table s false) (Model p (step before action s))
+Marks p before action limit table =
+    (s : ℕ) → s < limit → Interpretation (p .atoms) (step before action s) × Decides (getD table s false) (Model p (step before action s))
 
 -- the states that may follow, as a table of all 512;
 -- refused with 6 exactly where there is no such state or action, or a step has a bit beyond the atoms of p

@@ -4,6 +4,7 @@ use Prim.Native.Nat.{ℕ, _<_}
 use lib.Dec.{eqb}
 use Rattle.programs.specs.Literals.{bit}
 
+-- false, true, an atom by its number, not, and, or, implies
 pub data Formula : Type 0 where
   falsity : Formula
   truth : Formula

@@ -33,7 +33,7 @@ with-literal X l = record {
   negative = cond (l .negative) (bitOr (X .negative) (2 ^ l .atom)) (X .negative);
 }
 
--- what `with-literal X l` is: the smallest set Y that has the literals of X and the literal l
+-- Y is the smallest set that has the literals of X and the literal l, as `with-literal X l` is
 pub record Added (X : LiteralSet) (l : Literal) (Y : LiteralSet) : Type 0 where
   pub has : Member l Y
   pub kept : Subset X Y

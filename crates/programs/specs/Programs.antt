@@ -37,7 +37,7 @@ pub record Program : Type 0 where
   pub atoms : ℕ
   pub rules : List Rule
 
--- each literal of the rule is below n
+-- each literal of the rule, and each atom of a formula, is below n
 pub record RuleFits (n : ℕ) (r : Rule) : Type 0 where
   pub head : r .head .atom < n
   pub premises : Below n (r .premises)
@@ -63,7 +63,8 @@ pub record Smallest (R : Rule → Type 0) (X : LiteralSet) : Type 0 where
   pub closed : Closed R X
   pub within : (Y : LiteralSet) → Closed R Y → Subset X Y
 
--- w is a model of p: the smallest set closed under the reduct relative to w is the set of the literals of w
+-- w is a model of p: it numbers an interpretation of p's atoms, and the smallest set closed under the reduct relative to w is the
+-- set of the literals of w
 pub record Model (p : Program) (w : ℕ) : Type 0 where
   pub interpretation : Interpretation (p .atoms) w
   pub smallest : Smallest (Reduct p w) (literals-of (p .atoms) w)

@@ -5,6 +5,7 @@ use lib.Chars.{codes}
 use Rattle.programs.specs.declared.refusal.Refusal.{Refusal}
 use Rattle.programs.specs.declared.refusal.Refusal.the-variants.{OutOfRange}
 
+-- the number that callers know it by
 abbrev pub number : Refusal → ℕ
 number OutOfRange = 6
 

@@ -21,13 +21,13 @@ Obeys X r = Subset (r .premises) X → Member (r .head) X
 abbrev pub ObeysMarked : Program → List Bool → ℕ → LiteralSet → Type 0
 ObeysMarked p table m X = (k : ℕ) → k < m → getD table k false ≡ true → Obeys X (rule-at p k)
 
--- Y is what the rule r makes of X
+-- Y has X, the head of r where X has its premises, and nothing that a set which has X and obeys r lacks
 pub record Fired (r : Rule) (X Y : LiteralSet) : Type 0 where
   pub kept : Subset X Y
   pub head : Subset (r .premises) X → Member (r .head) Y
   pub within : (Z : LiteralSet) → Obeys Z r → Subset X Z → Subset Y Z
 
--- Y is what the marked rules among the first m make of X, each once; where that is X again, X obeys them
+-- Y has X, and lies within every set that has X and obeys all marked rules of p; where Y is X, X obeys the marked ones among the first m
 pub record Grown (p : Program) (table : List Bool) (m : ℕ) (X Y : LiteralSet) : Type 0 where
   pub kept : Subset X Y
   pub within : (Z : LiteralSet) → ObeysMarked p table (length (p .rules)) Z → Subset X Z → Subset Y Z

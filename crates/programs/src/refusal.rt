@@ -7,7 +7,7 @@ use std::fmt;
 
 #[derive(Clone, Copy, PartialEq, Eq, Debug)]
 pub enum Refusal {
-    // An atom, a bit, a rule number or a count lies outside its range.
+    // An atom, a bit, a row, a rule number or a count lies outside its range.
     OutOfRange,
 }
 

@@ -74,7 +74,7 @@ inertia d = either-way (stays d)
 abbrev pub choice : ℕ → List Rule
 choice = either-way may-be
 
--- the laws, then inertia for each fluent, then a choice for each fluent at time 0 and each action
+-- each static law at both times, then each dynamic law, then inertia for each fluent, then a choice for each fluent at time 0 and each action
 abbrev pub action-rules : Description → List Rule
 action-rules d =
     joined (both-times d) (d .statics)
@@ -82,5 +82,6 @@ action-rules d =
     ++ (joined (inertia d) (counting 0 (d .fluents))
     ++ joined choice (counting 0 (earlier d))))
 
+-- the program: those rules, over the fluents at time 0, the actions and the fluents at time 1
 abbrev pub action-program : Description → Program
 action-program d = record { atoms = 2 * d .fluents + d .actions; rules = action-rules d }

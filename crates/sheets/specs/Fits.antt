@@ -29,6 +29,7 @@ use Rattle.sheets.specs.Laws.{Description, StaticInRange, DynamicInRange, Desc
 use Rattle.sheets.specs.Actions.{earlier, later, all-later, only, derived, both-times, done, effect, stays, may-be, inertia, choice, action-rules, action-program}
 use Rattle.sheets.specs.Sheets.{description}
 
+-- a sheet can only be made of laws that are in range
 pub sheet-fits : (s : ActionSheet) → DescriptionFits (description s)
 sheet-fits s =
     let f = s .fluents in
@@ -128,6 +129,7 @@ action-length d =
       length-counting 0 (earlier d),
     ))
 
+-- a description that fits makes a program that fits
 pub program-fits : (d : Description) → DescriptionFits d → ProgramFits (action-program d)
 program-fits d h =
     let n = 2 * d .fluents + d .actions in

@@ -28,7 +28,7 @@ dynamics-of [] = []
 dynamics-of (Static law ∷ laws) = dynamics-of laws
 dynamics-of (Dynamic law ∷ laws) = law ∷ dynamics-of laws
 
--- what so many fluents and actions with a list of laws describe
+-- the description with f fluents, e actions and these laws
 abbrev pub described : ℕ → ℕ → List Law → Description
 described f e laws = record { fluents = f; actions = e; statics = statics-of laws; dynamics = dynamics-of laws }
 
@@ -40,7 +40,7 @@ StaticInRange f law = (law .head .atom < f) × Below f (law .condition)
 abbrev pub DynamicInRange : ℕ → ℕ → DynamicLaw → Type 0
 DynamicInRange f e law = (law .action < e) × (law .head .atom < f) × Below f (law .condition)
 
--- some fluent, room for two times in 64 atoms, at most 1,024 laws, each of them in range
+-- some fluent, room in 64 atoms for the fluents at two times and the actions, at most 1,024 laws, each of them in range
 pub record DescriptionFits (d : Description) : Type 0 where
   pub some : 1 ≤ d .fluents
   pub few : 2 * d .fluents + d .actions ≤ 64

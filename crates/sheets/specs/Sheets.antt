@@ -3,7 +3,7 @@ use lib.ListN.{take}
 use Rattle.sheets.specs.declared.action_sheet.ActionSheet.{ActionSheet}
 use Rattle.sheets.specs.Laws.{Description}
 
--- its fluents and actions, and the laws that stand before its counts
+-- its fluents and actions, its first `static_count` static laws and its first `dynamic_count` dynamic ones
 abbrev pub description : ActionSheet → Description
 description s = record {
   fluents = s .fluents;
