@@ -16,9 +16,11 @@ yes-assuming a f = record { head = record { atom = a; negative = false }; premis
 abbrev pub not-assuming : ℕ → Formula → Rule
 not-assuming a f = record { head = record { atom = a; negative = true }; premises = no-literals; justification = formula f }
 
+-- a or b
 abbrev pub either : Formula
 either = disjunction (atom 0) (atom 1)
 
+-- the program: the choice of a, the choice of b, c assuming a or b, not c assuming the contrary
 abbrev pub either-program : Program
 either-program = record {
   atoms = 3;
