@@ -1,4 +1,6 @@
-// Worked examples: small programs with all their models, and rule sources of the examples' own.
+//! Worked examples: small programs with all their models, and rule sources of the examples' own.
+#![tactic(auto)]
+
 #[cfg(test)]
 mod actions;
 pub mod either;

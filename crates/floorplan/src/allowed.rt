@@ -19,7 +19,7 @@ pub fn next_states<S: RuleSource>(
     before: usize,
     action: u8,
 ) -> Result<[bool; STATES], Refusal>
-    ensures { AnswersNext (program source.now) before action result }
+    ensures { AnswersNext (S.program source.now) before action result }
 {
     if before >= STATES || action >= ACTION_COUNT {
         return Err(Refusal::OutOfRange);

@@ -36,7 +36,7 @@ pub fn next_state<S: RuleSource>(
     action: u8,
     above: Option<usize>,
 ) -> Result<Option<usize>, Refusal>
-    ensures { AnswersNextState (program source.now) before action above result }
+    ensures { AnswersNextState (S.program source.now) before action above result }
 {
     if source.atoms() != ATOMS || before >= STATES || action >= ACTION_COUNT {
         return Err(Refusal::OutOfRange);

@@ -1,5 +1,7 @@
-// Follows one sheet of a building project, A-104, from the drafter's laptop to the archive: at each move it asks which
-// states the project's laws allow next, and at hand-over it writes the archive entry.
+//! Follows one sheet of a building project, A-104, from the drafter's laptop to the archive: at each move it asks which
+//! states the project's laws allow next, and at hand-over it writes the archive entry.
+#![tactic(auto)]
+
 use crate::allowed::{first_allowed, next_states, none_after};
 use crate::project::{ACTION_COUNT, ACTIONS, ARCHIVE, FLUENT_COUNT, FLUENTS, LAWS, MOVES, Move};
 use programs::literal::{Literal, LiteralSet};

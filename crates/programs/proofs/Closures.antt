@@ -1,8 +1,9 @@
 -- From the marks of a reduct, over rounds, to its smallest closed set.
-use Rattle.std.proofs.Common.{◌≡◌, ℕ, ◌+◌, ◌^◌, ◌<◌, Bool, true, false, cond, List, length, get_or, Decides, sym, refl, ap, ◌∙◌, subst, inl, inr, arith, below_more}
+use Rattle.std.proofs.Common.{◌≡◌, ℕ, ◌+◌, ◌^◌, ◌<◌, Bool, true, false, ◌&&◌, ◌==◌, List, length, get_or, Decides, sym, ap, ◌∙◌, subst, inl, inr, arith, below_more}
 use lib.Count.{ones}
 use Rattle.std.proofs.ByRecursion.{has_get_or}
 use Rattle.std.proofs.lemmas.Bool.{false≢true, cases_eq}
+use Rattle.std.proofs.lemmas.Bool.Decides.{Decides-at, Decides-like, Decides-and, Decides-eqb}
 use Rattle.programs.specs.declared.literal.LiteralSet.{LiteralSet}
 use Rattle.programs.specs.Literals.{Member, Subset, Added}
 use Rattle.programs.specs.Programs.{Rule, Program, Holds, Reduct, Closed, Smallest, rule_at, no_rule}
@@ -70,9 +71,8 @@ more_literals X Y xp xn yp yn s grew =
     ]
 
 -- what the derived `==` ensures
-pub same_test : (b : Bool) (X Y : LiteralSet) → cond {A = Type 0} b (Decides true (X.positive ≡ Y.positive) × Decides true (X.negative ≡ Y.negative)) ((Decides false (X.positive ≡ Y.positive) → ⊥) → (Decides false (X.negative ≡ Y.negative) → ⊥) → ⊥) → Decides b (X ≡ Y)
-same_test true X Y h = (λ _. same_set X Y (h.0.0 refl) (h.1.0 refl), λ _. refl)
-same_test false X Y h = (
-  λ e. absurd (false≢true e),
-  λ e. absurd (h (λ d. false≢true (d.1 (ap (λ V. V.positive) e))) (λ d. false≢true (d.1 (ap (λ V. V.negative) e)))),
-)
+pub same_test : (b : Bool) (X Y : LiteralSet) → b ≡ ((X.positive == Y.positive) && (X.negative == Y.negative)) → Decides b (X ≡ Y)
+same_test b X Y h =
+    Decides-at b ((X.positive == Y.positive) && (X.negative == Y.negative)) h
+    (Decides-like _ (λ e. same_set X Y e.0 e.1) (λ e. (ap (λ V. V.positive) e, ap (λ V. V.negative) e))
+    (Decides-and _ _ (Decides-eqb X.positive Y.positive) (Decides-eqb X.negative Y.negative)))

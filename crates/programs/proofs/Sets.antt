@@ -1,11 +1,11 @@
 -- Sets of literals, closed sets and smallest ones.
-use Rattle.std.proofs.Common.{◌≡◌, ℕ, ◌-◌, ◌*◌, ◌%◌, ◌^◌, ◌<◌, max, Bool, true, false, cond, ◌⊎◌, sym, ap, subst, ap₂, inl, inr, arith, pow_pos}
+use Rattle.std.proofs.Common.{◌≡◌, ℕ, ◌-◌, ◌*◌, ◌%◌, ◌^◌, ◌<◌, Bool, true, false, cond, ◌⊎◌, sym, ap, subst, ap₂, inl, inr, arith, pow_pos}
 use lib.Bits.{bit_and, bit_or}
 use Rattle.std.proofs.lemmas.Bool.{true≢false, false≢true}
 use Rattle.std.proofs.lemmas.Nat.{one_shl}
 use Rattle.programs.specs.declared.literal.Literal.{Literal}
 use Rattle.programs.specs.declared.literal.LiteralSet.{LiteralSet}
-use Rattle.programs.specs.Literals.{bit, Member, Subset, no_literals, with_literal, Added, Disjoint, Union, Difference, Below, AllTrue, Interpretation, LiteralsOfAreTheTrueOnes}
+use Rattle.programs.specs.Literals.{bit, Subset, no_literals, with_literal, Added, Disjoint, Union, Difference, Below, AllTrue, Interpretation, LiteralsOfAreTheTrueOnes}
 use Rattle.programs.proofs.Bits.{Within, Apart, bit_none, bit_cases, bit_lt, bit-bit_or, without_bit, bit_without, or_one, or_keeps, or_within, within_both, bit_place, complement_bit, interpretation_below}
 
 pub same_set : (X Y : LiteralSet) → X.positive ≡ Y.positive → X.negative ≡ Y.negative → X ≡ Y

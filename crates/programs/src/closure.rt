@@ -18,7 +18,7 @@ fn mark_reduct<S: RuleSource>(
     marks: &mut [bool],
 ) -> Result<(), Refusal>
     requires { length marks.old ≡ 4096 }
-    ensures { MatchResult result (λ _. Marked (program source.now) interpretation (length (program source.now).rules) marks.new) (λ e. BitBeyond (program source.now).atoms interpretation × (number e ≡ 6)) }
+    ensures { MatchResult result (λ _. Marked (S.program source.now) interpretation (length (S.program source.now).rules) marks.new) (λ e. BitBeyond (S.program source.now).atoms interpretation × (number e ≡ 6)) }
 {
     for i in 0..source.rule_count() {
         marks[i] = source.holds_in(i, interpretation)?;
@@ -28,7 +28,7 @@ fn mark_reduct<S: RuleSource>(
 
 // The set with the head of rule i, where it has the premises.
 fn fire<S: RuleSource>(source: &S, i: usize, derived: LiteralSet) -> Result<LiteralSet, Refusal>
-    ensures { MatchResult result (λ y. Fired (rule_at (program source.now) i) derived y) (λ e. length (program source.now).rules ≤ i) }
+    ensures { MatchResult result (λ y. Fired (rule_at (S.program source.now) i) derived y) (λ e. length (S.program source.now).rules ≤ i) }
 {
     if derived.includes(source.premises(i)?) {
         return derived.with(source.head(i)?);
@@ -43,7 +43,7 @@ fn round<S: RuleSource>(
     derived: LiteralSet,
 ) -> Result<LiteralSet, Refusal>
     requires { length marks.now ≡ 4096 }
-    ensures { MatchResult result (λ y. Grown (program source.now) marks.now (length (program source.now).rules) derived y) (λ e. ⊥) }
+    ensures { MatchResult result (λ y. Grown (S.program source.now) marks.now (length (S.program source.now).rules) derived y) (λ e. ⊥) }
 {
     let mut grown = derived;
     for i in 0..source.rule_count() {
@@ -57,7 +57,7 @@ fn round<S: RuleSource>(
 // The smallest set of literals that is closed under the reduct relative to an interpretation, as two words: the atoms
 // derived true and the atoms derived false. Premises are tested against what is derived, never against the interpretation.
 pub fn closure<S: RuleSource>(source: &S, interpretation: u64) -> Result<(u64, u64), Refusal>
-    ensures { AnswersClosure (program source.now) interpretation result }
+    ensures { AnswersClosure (S.program source.now) interpretation result }
 {
     if !is_interpretation(source.atoms(), interpretation) {
         return Err(Refusal::OutOfRange);
@@ -77,7 +77,7 @@ pub fn closure<S: RuleSource>(source: &S, interpretation: u64) -> Result<(u64, u
 
 // Whether the interpretation is a model: whether its closure is the set of its own literals.
 pub fn check<S: RuleSource>(source: &S, interpretation: u64) -> Result<bool, Refusal>
-    ensures { AnswersCheck (program source.now) interpretation result }
+    ensures { AnswersCheck (S.program source.now) interpretation result }
 {
     let (positive, negative) = closure(source, interpretation)?;
     let own = LiteralSet::of_interpretation(source.atoms(), interpretation)?;

@@ -1,4 +1,6 @@
-// Two-valued logic programs: literals, rules, rule sources, closures and models.
+//! Two-valued logic programs: literals, rules, rule sources, closures and models.
+#![tactic(auto)]
+
 pub mod closure;
 pub mod literal;
 pub mod refusal;

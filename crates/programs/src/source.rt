@@ -56,5 +56,5 @@ pub trait RuleSource {
 pub trait ClausalSource: RuleSource {
     // The justification of rule i.
     fn justification(&self, i: usize) -> Result<LiteralSet, Refusal>
-        ensures { AnswersLiterals (Self.RuleSource.program self.now) i result };
+        ensures { AnswersLiterals (Self.program self.now) i result };
 }

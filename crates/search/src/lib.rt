@@ -1,4 +1,6 @@
-// The search: the smallest model of a program above a number, found without walking through the numbers between.
+//! The search: the smallest model of a program above a number, found without walking through the numbers between.
+#![tactic(auto)]
+
 mod learned;
 mod narrow;
 mod picks;

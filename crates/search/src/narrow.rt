@@ -37,8 +37,8 @@ fn step<S: RuleSource>(
     row: LiteralSet,
     trail: &mut Trail,
 ) -> Result<bool, LiteralSet>
-    requires { RowHolds (program source.now) i rule row × Orderly trail.old }
-    ensures { Narrowed (Model (program source.now)) trail.old result trail.new }
+    requires { RowHolds (S.program source.now) i rule row × Orderly trail.old }
+    ensures { Narrowed (Model (S.program source.now)) trail.old result trail.new }
 {
     if rule.justification.is_some() {
         return trail.apply(row);
@@ -57,8 +57,8 @@ fn sweep_rows<S: RuleSource>(
     rows: &[LiteralSet],
     trail: &mut Trail,
 ) -> Result<bool, LiteralSet>
-    requires { Prepared (program source.now) rules.now rows.now × Orderly trail.old }
-    ensures { Narrowed (Model (program source.now)) trail.old result trail.new }
+    requires { Prepared (S.program source.now) rules.now rows.now × Orderly trail.old }
+    ensures { Narrowed (Model (S.program source.now)) trail.old result trail.new }
 {
     let mut grew = false;
     for i in 0..rules.len() {
@@ -91,8 +91,8 @@ pub fn narrow<S: RuleSource>(
     learned: &Learned,
     trail: &mut Trail,
 ) -> Result<(), LiteralSet>
-    requires { Prepared (program source.now) rules.now rows.now × Learns (program source.now) learned.now × Orderly trail.old }
-    ensures { Narrowed (Model (program source.now)) trail.old result trail.new }
+    requires { Prepared (S.program source.now) rules.now rows.now × Learns (S.program source.now) learned.now × Orderly trail.old }
+    ensures { Narrowed (Model (S.program source.now)) trail.old result trail.new }
 {
     for _ in 0..ROUNDS {
         if sweep_rows(source, rules, rows, trail)? {

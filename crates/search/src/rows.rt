@@ -53,7 +53,7 @@ impl KnownRule {
 
 // Rule i, as the search keeps it.
 fn known_rule<S: RuleSource>(source: &S, i: usize) -> Result<KnownRule, Refusal>
-    ensures { MatchResult result (Keeps (program source.now) i) (λ e. length (program source.now).rules ≤ i) }
+    ensures { MatchResult result (Keeps (S.program source.now) i) (λ e. length (S.program source.now).rules ≤ i) }
 {
     let head = source.head(i)?;
     let premises = source.premises(i)?;
@@ -66,8 +66,8 @@ fn known_rule<S: RuleSource>(source: &S, i: usize) -> Result<KnownRule, Refusal>
 
 // Asks for each rule of the source.
 pub fn ask_rules<S: RuleSource>(source: &S, rules: &mut [KnownRule]) -> Result<(), Refusal>
-    requires { length rules.old ≡ length (program source.now).rules }
-    ensures { MatchResult result (λ _. KeepsAll (program source.now) (length (program source.now).rules) rules.new) (λ e. ⊥) }
+    requires { length rules.old ≡ length (S.program source.now).rules }
+    ensures { MatchResult result (λ _. KeepsAll (S.program source.now) (length (S.program source.now).rules) rules.new) (λ e. ⊥) }
 {
     for i in 0..rules.len() {
         rules[i] = known_rule(source, i)?;
@@ -114,7 +114,7 @@ pub fn make_rows(rules: &[KnownRule], rows: &mut [LiteralSet])
 
 // Whether the source says that the known literals settle the justification of rule i, in one way.
 pub fn is_settled<S: RuleSource>(source: &S, i: usize, known: LiteralSet, holds: bool) -> bool
-    ensures { result ≡ true → Settles (program source.now).atoms (rule_at (program source.now) i).justification known holds }
+    ensures { result ≡ true → Settles (S.program source.now).atoms (rule_at (S.program source.now) i).justification known holds }
 {
     match source.settled(i, known) {
         Some(answer) => answer == holds,
@@ -124,8 +124,8 @@ pub fn is_settled<S: RuleSource>(source: &S, i: usize, known: LiteralSet, holds:
 
 // A part of the known literals that still settles the justification of rule i: what can be left out, is.
 pub fn settling<S: RuleSource>(source: &S, i: usize, known: LiteralSet, holds: bool) -> LiteralSet
-    requires { Settles (program source.now).atoms (rule_at (program source.now) i).justification known holds }
-    ensures { Subset result known × Settles (program source.now).atoms (rule_at (program source.now) i).justification result holds }
+    requires { Settles (S.program source.now).atoms (rule_at (S.program source.now) i).justification known holds }
+    ensures { Subset result known × Settles (S.program source.now).atoms (rule_at (S.program source.now) i).justification result holds }
 {
     let mut needed = known;
     for atom in 0..MAX_ATOMS {

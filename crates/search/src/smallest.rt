@@ -39,8 +39,8 @@ fn undecided(atoms: u8, known: LiteralSet) -> u64
 
 // The answer where every atom is decided: this one interpretation, or none.
 fn settle<S: RuleSource>(source: &S, trail: &Trail) -> Result<u64, LiteralSet>
-    requires { Orderly trail.now × ((w : ℕ) → Model (program source.now) w → Respects w trail.now) × ((i : ℕ) → i < (program source.now).atoms → Decided i trail.now.known) }
-    ensures { Searched (program source.now) trail.now.start result }
+    requires { Orderly trail.now × ((w : ℕ) → Model (S.program source.now) w → Respects w trail.now) × ((i : ℕ) → i < (S.program source.now).atoms → Decided i trail.now.known) }
+    ensures { Searched (S.program source.now) trail.now.start result }
 {
     let word = trail.known.positive;
     let Ok(is_model) = check(source, word) else {
@@ -58,8 +58,8 @@ fn search<S: RuleSource>(
     learned: &mut Learned,
     start: LiteralSet,
 ) -> Result<u64, LiteralSet>
-    requires { Prepared (program source.now) rules.now rows.now × Learns (program source.now) learned.old × Consistent start }
-    ensures { Searched (program source.now) start result × Learns (program source.now) learned.new × 1 ≤ learned.new.nodes }
+    requires { Prepared (S.program source.now) rules.now rows.now × Learns (S.program source.now) learned.old × Consistent start }
+    ensures { Searched (S.program source.now) start result × Learns (S.program source.now) learned.new × 1 ≤ learned.new.nodes }
 {
     learned.count_node();
     let mut trail = Trail::starting(start);
@@ -95,8 +95,8 @@ fn search_from<S: RuleSource>(
     learned: &mut Learned,
     start: LiteralSet,
 ) -> Option<u64>
-    requires { Prepared (program source.now) rules.now rows.now × Learns (program source.now) learned.old }
-    ensures { MatchOption result (NoGood (program source.now) start) (λ w. SmallestWith (program source.now) start w × (1 ≤ learned.new.nodes)) × Learns (program source.now) learned.new }
+    requires { Prepared (S.program source.now) rules.now rows.now × Learns (S.program source.now) learned.old }
+    ensures { MatchOption result (NoGood (S.program source.now) start) (λ w. SmallestWith (S.program source.now) start w × (1 ≤ learned.new.nodes)) × Learns (S.program source.now) learned.new }
 {
     if !start.is_disjoint(start.complements()) {
         return None;
@@ -137,8 +137,8 @@ fn search_above<S: RuleSource>(
     given: LiteralSet,
     mark: u64,
 ) -> Option<u64>
-    requires { Prepared (program source.now) rules.now rows.now × Learns (program source.now) learned.old }
-    ensures { NamesSmallest (ModelAboveWith (program source.now) given (Some mark)) result × (is_some result ≡ true → 1 ≤ learned.new.nodes) }
+    requires { Prepared (S.program source.now) rules.now rows.now × Learns (S.program source.now) learned.old }
+    ensures { NamesSmallest (ModelAboveWith (S.program source.now) given (Some mark)) result × (is_some result ≡ true → 1 ≤ learned.new.nodes) }
 {
     let Ok(own) = LiteralSet::of_interpretation(source.atoms(), mark) else {
         return None;
@@ -160,7 +160,7 @@ pub fn smallest_above_with<S: RuleSource>(
     given: LiteralSet,
     mark: Option<u64>,
 ) -> Result<Found, Refusal>
-    ensures { MatchResult result (λ found. Below (program source.now).atoms given × NamesSmallest (ModelAboveWith (program source.now) given mark) found.model × (is_some found.model ≡ true → 1 ≤ found.nodes)) (λ e. (Below (program source.now).atoms given → ⊥) × (number e ≡ 6)) }
+    ensures { MatchResult result (λ found. Below (S.program source.now).atoms given × NamesSmallest (ModelAboveWith (S.program source.now) given mark) found.model × (is_some found.model ≡ true → 1 ≤ found.nodes)) (λ e. (Below (S.program source.now).atoms given → ⊥) × (number e ≡ 6)) }
 {
     if !given.is_below(source.atoms()) {
         return Err(Refusal::OutOfRange);
@@ -185,7 +185,7 @@ pub fn smallest_above_with<S: RuleSource>(
 
 // The smallest model above the mark, or of all models where there is no mark; none exactly where there is none.
 pub fn smallest_above<S: RuleSource>(source: &S, mark: Option<u64>) -> Option<u64>
-    ensures { NamesSmallest (ModelAbove (program source.now) mark) result }
+    ensures { NamesSmallest (ModelAbove (S.program source.now) mark) result }
 {
     match smallest_above_with(source, LiteralSet::EMPTY, mark) {
         Ok(found) => found.model,

@@ -118,8 +118,8 @@ fn block<S: RuleSource>(
     known: LiteralSet,
     gathered: LiteralSet,
 ) -> Option<LiteralSet>
-    requires { Keeps (program source.now) i rule × Subset gathered known }
-    ensures { IfSome result (λ B. Subset gathered B × Subset B known × Blocks (program source.now) i B) }
+    requires { Keeps (S.program source.now) i rule × Subset gathered known }
+    ensures { IfSome result (λ B. Subset gathered B × Subset B known × Blocks (S.program source.now) i B) }
 {
     let against = rule.body().complements();
     if !gathered.is_disjoint(against) {
@@ -142,8 +142,8 @@ fn block_all<S: RuleSource>(
     known: LiteralSet,
     set: LiteralSet,
 ) -> Option<LiteralSet>
-    requires { KeepsAll (program source.now) (length rules.now) rules.now }
-    ensures { IfSome result (λ B. Subset B known × BlocksAll (program source.now) rules.now set (length rules.now) B) }
+    requires { KeepsAll (S.program source.now) (length rules.now) rules.now }
+    ensures { IfSome result (λ B. Subset B known × BlocksAll (S.program source.now) rules.now set (length rules.now) B) }
 {
     let mut gathered = LiteralSet::EMPTY;
     for i in 0..rules.len() {
@@ -164,8 +164,8 @@ fn exclude<S: RuleSource>(
     trail: &mut Trail,
     literal: Literal,
 ) -> Result<bool, LiteralSet>
-    requires { KeepsAll (program source.now) (length rules.now) rules.now × length rules.now ≡ length (program source.now).rules × Orderly trail.old × (literal.atom < (program source.now).atoms) }
-    ensures { Narrowed (Model (program source.now)) trail.old result trail.new }
+    requires { KeepsAll (S.program source.now) (length rules.now) rules.now × length rules.now ≡ length (S.program source.now).rules × Orderly trail.old × (literal.atom < (S.program source.now).atoms) }
+    ensures { Narrowed (Model (S.program source.now)) trail.old result trail.new }
 {
     let known = trail.known;
     if supported.contains(literal) || known.contains(literal.complement()) {
@@ -185,8 +185,8 @@ pub fn exclude_unfounded<S: RuleSource>(
     rules: &[KnownRule],
     trail: &mut Trail,
 ) -> Result<bool, LiteralSet>
-    requires { KeepsAll (program source.now) (length rules.now) rules.now × length rules.now ≡ length (program source.now).rules × Orderly trail.old }
-    ensures { Narrowed (Model (program source.now)) trail.old result trail.new }
+    requires { KeepsAll (S.program source.now) (length rules.now) rules.now × length rules.now ≡ length (S.program source.now).rules × Orderly trail.old }
+    ensures { Narrowed (Model (S.program source.now)) trail.old result trail.new }
 {
     let (positive, negative) = upper_closure(source, rules, trail.known);
     let supported = LiteralSet { positive, negative };

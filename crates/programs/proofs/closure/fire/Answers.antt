@@ -12,8 +12,8 @@ returns-then-includes g c =
     let f = g.S.RuleSource.fits c.args.source.now in
     let X = c.args.derived in
     let r = rule_at p c.args.i in
-    let head = c.in-ok-head.ensures in
-    let has = subst (λ P. Subset P X) c.in-ok-premises.ensures.1 (c.if-includes.ensures.0 refl) in
+    let head = c.in_ok-head.ensures in
+    let has = subst (λ P. Subset P X) c.in_ok-premises.ensures.1 (c.if-includes.ensures.0 refl) in
     let below = All-get_or (RuleFits p.atoms) p.rules c.args.i no_rule head.0 f.each in
     MatchResult-weaker c.with.result c.with.ensures
     (λ Y a. fired_added r X Y has (subst (λ l. Added X l Y) head.1 a.2))

@@ -3,11 +3,11 @@ use Rattle.search.specs.Rows.{RowOf}
 use Rattle.search.proofs.Rules.{at_of}
 use Rattle.search.proofs.rows.row.Goals as goal
 
-pub returns-then-has-opponent : goal.returns-then-has-opponent
-returns-then-has-opponent c =
+pub returns-then-has_opponent : goal.returns-then-has_opponent
+returns-then-has_opponent c =
     let rules = c.args.rules.now in
     let B = c.body-body.result in
-    let found = c.if-has-opponent.ensures refl in
+    let found = c.if-has_opponent.ensures refl in
     at_of (λ k. RowOf rules k B) rules c.args.i _ c.requires (B, c.body-body.ensures, λ l m. m, inr (found.0, found.1, found.2 _))
 
 pub returns : goal.returns

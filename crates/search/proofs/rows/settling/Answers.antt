@@ -3,7 +3,7 @@ use Rattle.programs.specs.Literals.{Subset}
 use Rattle.programs.specs.Programs.{rule_at}
 use Rattle.programs.specs.Questions.{Settles}
 use Rattle.search.proofs.rows.settling.Goals as goal
-use Rattle.search.proofs.rows.settling.Goals.{then-ne+then-is-settled, else-ne}
+use Rattle.search.proofs.rows.settling.Goals.{then-ne+then-is_settled, else-ne}
 
 pub loop-atom-preserved : goal.loop-atom-preserved
 loop-atom-preserved g c =
@@ -12,8 +12,8 @@ loop-atom-preserved g c =
     let b = c.args.holds in
     let inv = c.loop-atom.invariant in
     elim c.if-ne.branch [
-      | then-ne+then-is-settled w ↦
+      | then-ne+then-is_settled w ↦
           subst (λ X. Subset X c.args.known × Settles p.atoms j X b) (sym w.needed-is)
-          (λ l m. inv.0 l (c.difference-fewer.ensures.from l m), w.if-is-settled.ensures refl)
+          (λ l m. inv.0 l (c.difference-fewer.ensures.from l m), w.if-is_settled.ensures refl)
       | else-ne w ↦ subst (λ X. Subset X c.args.known × Settles p.atoms j X b) (sym w.needed-is) inv
     ]

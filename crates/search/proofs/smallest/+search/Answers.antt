@@ -14,7 +14,7 @@ pub loop-reason-init : goal.loop-reason-init
 loop-reason-init g t c =
     let p = g.S.RuleSource.program c.args.source.now in
     let made = c.starting-trail.ensures in
-    (made.2, refl, λ w m. made.3 w, c.count-node.ensures.1 p c.requires.1, c.count-node.ensures.0)
+    (made.2, refl, λ w m. made.3 w, c.count_node.ensures.1 p c.requires.1, c.count_node.ensures.0)
 
 pub returns-in-Err : goal.returns-in-Err
 returns-in-Err g t c =
@@ -33,13 +33,13 @@ pub settle-requires : goal.settle-requires
 settle-requires g t c =
     let p = g.S.RuleSource.program c.args.source.now in
     let inv = c.loop-reason.invariant in
-    let far = c.in-default.ensures in
-    (far.orderly, λ w m. far.respected w m (inv.2 w m), λ i h. (c.undecided.ensures i).1 (omega (arith, h, c.atoms.ensures)) (ap (λ x. bit x i) c.in-default-highest.ensures ∙ bit_none i))
+    let far = c.in_default.ensures in
+    (far.orderly, λ w m. far.respected w m (inv.2 w m), λ i h. (c.undecided.ensures i).1 (omega (arith, h, c.atoms.ensures)) (ap (λ x. bit x i) c.in_default-highest.ensures ∙ bit_none i))
 
 pub search-requires : goal.search-requires
 search-requires g t c κs within =
     let inv = c.loop-reason.invariant in
-    let far = c.in-default.ensures in
+    let far = c.in_default.ensures in
     let T = c.narrow.new.trail in
     let H = c.plus-lower.result in
     let not_a : Literal = record { atom = c.in-Some.atom; negative = true } in
@@ -48,14 +48,14 @@ search-requires g t c κs within =
     let added = c.plus-lower.ensures.1 in
     let from = sym (far.same ∙ inv.1 ∙ c.starting-trail.ensures.0) in
     let known : Subset c.args.start T.known = λ l m. far.orderly.started l (subst (λ X. Member l X) from m) in
-    let less = less_left c.args.start H (omega (arith, c.well-formed)) (omega (arith, c.well-formed)) (omega (arith, c.plus-lower.type-inv)) (omega (arith, c.plus-lower.type-inv)) (λ l m. added.kept l (known l m)) (not_a, λ h. free (inr (known not_a h)), added.has) in
+    let less = less_left c.args.start H (omega (arith, c.well_formed)) (omega (arith, c.well_formed)) (omega (arith, c.plus-lower.type_inv)) (omega (arith, c.plus-lower.type_inv)) (λ l m. added.kept l (known l m)) (not_a, λ h. free (inr (known not_a h)), added.has) in
     (omega (arith, less, c.decreases), (within, (c.requires.0, inv.3, consistent_with T.known H not_a far.orderly.consistent (λ h. free (inl h)) c.plus-lower.ensures.0)))
 
 pub returns-in-Ok : goal.returns-in-Ok
 returns-in-Ok g t c =
     let p = g.S.RuleSource.program c.args.source.now in
     let inv = c.loop-reason.invariant in
-    let far = c.in-default.ensures in
+    let far = c.in_default.ensures in
     let T = c.narrow.new.trail in
     let found = c.in-Some.ensures in
     let below = c.in-Ok.ensures in
@@ -69,24 +69,24 @@ returns-in-Ok g t c =
 pub loop-reason-smaller : goal.loop-reason-smaller
 loop-reason-smaller g t c =
     let inv = c.loop-reason.invariant in
-    let far = c.in-default.ensures in
+    let far = c.in_default.ensures in
     let T = c.narrow.new.trail in
     let K = c.loop-reason.trail.known in
     let L = c.apply.new.self.known in
     let N = c.in-Err-search.nogood in
     let found = c.in-Some.ensures in
     let free = (c.undecided.ensures c.in-Some.atom).0 found.1 in
-    let step = c.in-ok-apply.ensures in
-    let grew = must_grow c.in-ok-apply.field-0 T.known L N step.1 (half_ripe T.known c.plus-lower.result N c.in-Some.atom c.plus-lower.ensures.0 free c.in-Err-search.ensures.0.0) in
+    let step = c.in_ok-apply-in-Err-search.ensures in
+    let grew = must_grow c.in_ok-apply-in-Err-search.field-0 T.known L N step.1 (half_ripe T.known c.plus-lower.result N c.in-Some.atom c.plus-lower.ensures.0 free c.in-Err-search.ensures.0.0) in
     less_left K L inv.0.wide.0 inv.0.wide.1 step.0.orderly.wide.0 step.0.orderly.wide.1 (λ l m. step.0.kept l (far.kept l m)) (grew.0, λ h. grew.1 (far.kept grew.0 h), grew.2)
 
 pub loop-reason-preserved : goal.loop-reason-preserved
 loop-reason-preserved g t c =
     let p = g.S.RuleSource.program c.args.source.now in
     let inv = c.loop-reason.invariant in
-    let far = c.in-default.ensures in
+    let far = c.in_default.ensures in
     let below = c.in-Err-search.ensures in
-    let step = c.in-ok-apply.ensures.0 in (
+    let step = c.in_ok-apply-in-Err-search.ensures.0 in (
       step.orderly,
       step.same ∙ far.same ∙ inv.1,
       λ w m. step.respected w (below.0.1 w m) (far.respected w m (inv.2 w m)),
@@ -94,18 +94,18 @@ loop-reason-preserved g t c =
       below.2,
     )
 
-pub returns-in-err-apply : goal.returns-in-err-apply
-returns-in-err-apply g t c =
+pub returns-in_err-apply-in-Err-search : goal.returns-in_err-apply-in-Err-search
+returns-in_err-apply-in-Err-search g t c =
     let p = g.S.RuleSource.program c.args.source.now in
     let inv = c.loop-reason.invariant in
-    let far = c.in-default.ensures in
+    let far = c.in_default.ensures in
     let T = c.narrow.new.trail in
     let N = c.in-Err-search.nogood in
-    let R = c.in-err-apply.field-0.0 in
+    let R = c.in_err-apply-in-Err-search.field-0.0 in
     let below = c.in-Err-search.ensures in
-    let refuted = refuted_for (Model p) (Avoids N) below.0.1 T R c.in-err-apply.ensures in
+    let refuted = refuted_for (Model p) (Avoids N) below.0.1 T R c.in_err-apply-in-Err-search.ensures in
     let none = refuted_nogood p T far.orderly (λ w m. far.respected w m (inv.2 w m)) R refuted in
-    let out = err_from_is_err_and c.from-residual.result c.from-residual.ensures.1 in (
+    let out = err_from_is_err_and c.from_residual.result c.from_residual.ensures.1 in (
       rw (out.1, out.2) (λ l m. subst (λ X. Member l X) (far.same ∙ inv.1 ∙ c.starting-trail.ensures.0) (refuted.within l m), none),
       below.1,
       below.2,

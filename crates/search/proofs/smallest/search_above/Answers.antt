@@ -6,14 +6,14 @@ use Rattle.search.specs.Rows.{Learns}
 use Rattle.search.specs.Searches.{BlockOf}
 use Rattle.search.proofs.Parts.{NoneIn, none_beyond, none_above, none_in_more, none_in_set, none_in_block, smallest_in_block}
 use Rattle.search.proofs.smallest.search_above.Goals as goal
-use Rattle.search.proofs.smallest.search_above.Goals.{then-mark-atom-eq0+in-default-search-from, else-mark-atom-eq0}
+use Rattle.search.proofs.smallest.search_above.Goals.{then-mark-atom-eq0+in_default-search_from, else-mark-atom-eq0}
 
-pub returns-in-default : goal.returns-in-default
-returns-in-default g c =
+pub returns-in_default : goal.returns-in_default
+returns-in_default g c =
     let p = g.S.RuleSource.program c.args.source.now in
     let f = g.S.RuleSource.fits c.args.source.now in
     let mark = c.args.mark in (
-      elim c.in-default.ensures.0 [
+      elim c.in_default.ensures.0 [
         | inl h ↦ absurd (omega (arith, h, f.few, c.atoms.ensures))
         | inr b ↦ none_beyond p c.args.given mark (subst (λ (n : ℕ). BitBeyond n mark) c.atoms.ensures b)
       ],
@@ -44,10 +44,10 @@ loop-atom-preserved g c =
     let read = c.in-Ok.ensures in
     let own = subst (λ (n : ℕ). Interpretation n mark) c.atoms.ensures read.1 in
     elim c.if-mark-atom-eq0.branch [
-      | then-mark-atom-eq0+in-default-search-from w ↦
+      | then-mark-atom-eq0+in_default-search_from w ↦
           let B = w.block.result in
           let block = subst (λ M. BlockOf M k B) (read.2 ∙ ap (λ (n : ℕ). literals_of n mark) c.atoms.ensures) w.block.ensures in
-          let none = w.in-default-search-from.ensures in (
+          let none = w.in_default-search_from.ensures in (
             subst (Learns p) (sym w.learned-is) none.1,
             none_in_more p G mark k inv.1 (none_in_block p G mark own k B w.union-start.result block w.union-start.ensures none.0),
           )

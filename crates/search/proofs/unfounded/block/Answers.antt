@@ -4,13 +4,13 @@ use Rattle.search.proofs.Reasons.{union_within, start_part}
 use Rattle.search.proofs.Rules.{blocks_clash, blocks_one, blocks_settled}
 use Rattle.search.proofs.unfounded.block.Goals as goal
 
-pub returns-then-not-is-disjoint : goal.returns-then-not-is-disjoint
-returns-then-not-is-disjoint g c =
+pub returns-then-not-is_disjoint : goal.returns-then-not-is_disjoint
+returns-then-not-is_disjoint g c =
     let p = g.S.RuleSource.program c.args.source.now in
     let f = g.S.RuleSource.fits c.args.source.now in (
       λ l m. m,
       c.requires.1,
-      blocks_clash p f c.args.i c.args.rule c.body.result c.complements-against.result c.args.gathered c.requires.0 c.body.ensures c.complements-against.ensures (λ d. false≢true (c.if-not-is-disjoint.ensures.1 d)),
+      blocks_clash p f c.args.i c.args.rule c.body.result c.complements-against.result c.args.gathered c.requires.0 c.body.ensures c.complements-against.ensures (λ d. false≢true (c.if-not-is_disjoint.ensures.1 d)),
     )
 
 pub returns-in-Some : goal.returns-in-Some
@@ -26,8 +26,8 @@ returns-in-Some g c =
       blocks_one p f c.args.i c.args.rule c.body.result A c.plus.result l c.requires.0 c.body.ensures c.complements-against.ensures against c.plus.ensures.1.has,
     )
 
-pub returns-then-is-settled : goal.returns-then-is-settled
-returns-then-is-settled g c =
+pub returns-then-is_settled : goal.returns-then-is_settled
+returns-then-is_settled g c =
     let p = g.S.RuleSource.program c.args.source.now in
     let f = g.S.RuleSource.fits c.args.source.now in
     let R = c.settling.result in

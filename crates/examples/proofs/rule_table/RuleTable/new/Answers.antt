@@ -1,5 +1,5 @@
 use Rattle.std.proofs.Common.{refl, arith}
 use Rattle.examples.proofs.rule_table.RuleTable.new.Goals as goal
 
-pub invariant-of-result : goal.invariant-of-result
-invariant-of-result g c = (omega arith, (∣ c.if-not-make-program.ensures.0 refl ∣₁, tt))
+pub invariant_of-result : goal.invariant_of-result
+invariant_of-result g c = record { wide = omega arith; fit = ∣ c.if-not-make_program.ensures.0 refl ∣₁ }

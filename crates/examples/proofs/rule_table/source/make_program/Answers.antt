@@ -7,7 +7,7 @@ use Rattle.examples.proofs.rule_table.source.make_program.Goals as goal
 
 pub returns : goal.returns
 returns c =
-    let below = c.all-below.ensures in
+    let below = c.all_below.ensures in
     (λ e. table_fits c.args.atoms c.args.rules.now (omega arith) (omega arith) (omega arith) (below.0 e), λ h. below.1 h.each)
 
 pub returns-then-atoms-lt1 : goal.returns-then-atoms-lt1

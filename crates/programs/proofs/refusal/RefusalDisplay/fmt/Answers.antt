@@ -10,4 +10,4 @@ spelled OutOfRange = refl
 
 pub returns-clause-writes : goal.returns-clause-writes
 returns-clause-writes g c =
-    λ plain ok. subst (λ (bs : List ℕ). HasWritten g.W.Write.write_str_gives c.args.f.now bs c.write-str.new.self) (spelled c.args.self.now) (c.write-str.ensures.writes plain ok)
+    λ plain ok. subst (λ (bs : List ℕ). HasWritten g.W.Write.write_str_gives c.args.f.now bs c.write_str.new.self) (spelled c.args.self.now) (c.write_str.ensures.writes plain ok)

@@ -31,4 +31,4 @@ loop-atom-smaller c =
 pub returns : goal.returns
 returns c =
     let inv = c.loop-atom.invariant in
-    behind_all c.args.self.now c.args.set c.difference-found.result c.difference-reason.result c.loop-atom.reason c.loop-atom.rest c.requires.1 c.difference-found.ensures c.difference-reason.ensures inv.1 inv.2 c.in-default.ensures inv.3
+    behind_all c.args.self.now c.args.set c.difference-found.result c.difference-reason.result c.loop-atom.reason c.loop-atom.rest c.requires.1 c.difference-found.ensures c.difference-reason.ensures inv.1 inv.2 c.in_default.ensures inv.3

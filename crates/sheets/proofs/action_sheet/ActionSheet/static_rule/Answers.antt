@@ -11,15 +11,15 @@ returns-then-i-eq0 c =
     let s = c.args.self.now in
     sym (static_rule_at s c.args.i _ c.requires ∙ ap (rule_in (both_times (description s) (get_or s.statics (c.args.i / 2) _))) c.if-i-eq0.true)
 
-pub later-literal-requires : goal.later-literal-requires
-later-literal-requires c = (static_in_range c.args.self.now (c.args.i / 2) _ (omega arith)).0
+pub later_literal-requires : goal.later_literal-requires
+later_literal-requires c = (static_in_range c.args.self.now (c.args.i / 2) _ (omega arith)).0
 
-pub later-set-requires : goal.later-set-requires
-later-set-requires c = (static_in_range c.args.self.now (c.args.i / 2) _ (omega arith)).1
+pub later_set-requires : goal.later_set-requires
+later_set-requires c = (static_in_range c.args.self.now (c.args.i / 2) _ (omega arith)).1
 
 pub returns : goal.returns
 returns c =
     let s = c.args.self.now in
     let second : c.args.i % 2 ≡ 1 = omega arith in
-    same_rule _ _ _ _ _ _ c.later-literal.ensures c.later-set.ensures.0 refl
+    same_rule _ _ _ _ _ _ c.later_literal.ensures c.later_set.ensures.0 refl
     ∙ sym (static_rule_at s c.args.i _ c.requires ∙ ap (rule_in (both_times (description s) (get_or s.statics (c.args.i / 2) _))) second)

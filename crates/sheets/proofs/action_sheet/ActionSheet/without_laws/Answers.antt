@@ -1,5 +1,14 @@
 use Rattle.std.proofs.Common.{refl, arith}
 use Rattle.sheets.proofs.action_sheet.ActionSheet.without_laws.Goals as goal
 
-pub invariant-of-result : goal.invariant-of-result
-invariant-of-result c = (c.requires.0, (c.requires.1, (refl, (refl, (omega arith, (∣ tt ∣₁, (∣ tt ∣₁, tt)))))))
+pub invariant_of-result : goal.invariant_of-result
+invariant_of-result c =
+    record {
+      some = c.requires.0;
+      few = c.requires.1;
+      static_places = refl;
+      dynamic_places = refl;
+      short = omega arith;
+      each_static = ∣ tt ∣₁;
+      each_dynamic = ∣ tt ∣₁;
+    }

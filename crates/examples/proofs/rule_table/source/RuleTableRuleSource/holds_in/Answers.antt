@@ -3,6 +3,6 @@ use Rattle.std.proofs.lemmas.Bool.{false≢true}
 use Rattle.programs.proofs.Bits.{not_interpretation}
 use Rattle.examples.proofs.rule_table.source.RuleTableRuleSource.holds_in.Goals as goal
 
-pub returns-then-not-is-interpretation : goal.returns-then-not-is-interpretation
-returns-then-not-is-interpretation g c =
-    (inr (not_interpretation c.args.self.now.atoms c.args.interpretation (λ h. false≢true (c.if-not-is-interpretation.ensures.1 h))), refl)
+pub returns-then-not-is_interpretation : goal.returns-then-not-is_interpretation
+returns-then-not-is_interpretation g c =
+    (inr (not_interpretation c.args.self.now.atoms c.args.interpretation (λ h. false≢true (c.if-not-is_interpretation.ensures.1 h))), refl)
