@@ -12,9 +12,9 @@ loop-after-preserved g c =
     let action = c.args.action in
     let i = c.loop-after.after in
     let word = step_word before action i (omega arith) (omega arith) in
-    let answer = c.in-ok-allowed.field-0 in
-    let decides = subst (λ (w : ℕ). Decides answer (Model p w)) word c.in-ok-allowed.ensures.1 in
-    let interpretation = subst (λ (w : ℕ). Interpretation p.atoms w) word c.in-ok-allowed.ensures.0 in
+    let answer = c.in_ok-allowed.field-0 in
+    let decides = subst (λ (w : ℕ). Decides answer (Model p w)) word c.in_ok-allowed.ensures.1 in
+    let interpretation = subst (λ (w : ℕ). Interpretation p.atoms w) word c.in_ok-allowed.ensures.0 in
     (marks_more p before action i c.loop-after.allowed answer (omega arith) c.loop-after.invariant.0 interpretation decides, simp length-set c.loop-after.invariant.1)
 
 pub returns : goal.returns
