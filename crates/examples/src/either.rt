@@ -12,7 +12,7 @@ pub struct Either;
 
 // Whether an atom is true in an interpretation.
 pub fn is_true(atom: u8, interpretation: u64) -> bool
-    ensures { result ≡ ((bit interpretation atom) == 1) }
+    ensures { result ≡ (bit interpretation atom == 1) }
 {
     LiteralSet {
         positive: interpretation,

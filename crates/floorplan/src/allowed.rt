@@ -11,7 +11,7 @@ use programs::source::RuleSource;
 pub const STATES: usize = 1 << FLUENT_COUNT;
 
 // The place of the first fluent at time 1, after the fluents at time 0 and the actions.
-const LATER: u8 = FLUENT_COUNT + ACTION_COUNT;
+pub const LATER: u8 = FLUENT_COUNT + ACTION_COUNT;
 
 // Of every state, whether it may follow a state when an action is taken.
 pub fn next_states<S: RuleSource>(

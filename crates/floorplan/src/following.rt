@@ -3,15 +3,12 @@ ghost use Rattle.std.specs.Prelude.{◌≡◌, ◌<◌, ◌≤◌, MatchOption, 
 ghost use Rattle.programs.specs.Refusals.{number};
 ghost use Rattle.floorplan.specs.Following.{StateIn, steps_to, AnswersNextState};
 
-use crate::allowed::STATES;
+use crate::allowed::{LATER, STATES};
 use crate::project::{ACTION_COUNT, FLUENT_COUNT};
 use programs::literal::LiteralSet;
 use programs::refusal::Refusal;
 use programs::source::RuleSource;
 use search::smallest::smallest_above_with;
-
-// The place of the first fluent at time 1, after the fluents at time 0 and the actions.
-const LATER: u8 = FLUENT_COUNT + ACTION_COUNT;
 
 // The number of atoms, at both times.
 const ATOMS: u8 = LATER + FLUENT_COUNT;

@@ -1,5 +1,5 @@
 -- The node of a search: where every atom is decided, and the half in which an undecided atom is false.
-use Rattle.std.proofs.Common.{◌≡◌, ℕ, zero, suc, ◌+◌, ◌-◌, ◌^◌, ◌<◌, ◌≤◌, Bool, true, false, cond, ◌⊎◌, List, [], ◌∷◌, length, get_or, sym, refl, ap, ◌∙◌, subst, inl, inr, arith, pow_pos}
+use Rattle.std.proofs.Common.{◌≡◌, ℕ, zero, suc, ◌+◌, ◌-◌, ◌^◌, ◌<◌, Bool, true, false, cond, List, [], ◌∷◌, get_or, sym, ap, ◌∙◌, subst, inl, inr, arith, pow_pos}
 use lib.Bits.{bit_and, bit_or}
 use lib.Count.{ones}
 use Rattle.std.specs.List.{AllByRecursion}
@@ -13,7 +13,7 @@ use Rattle.programs.proofs.Bits.{bit_cases, bit_lt, bit_none, bit-bit_or, bits_s
 use Rattle.programs.proofs.Closures.{more_literals}
 use Rattle.programs.proofs.Sets.{empty_subset}
 use Rattle.search.specs.Nogoods.{NoGood, Consistent, SmallestWith}
-use Rattle.search.specs.Trails.{Orderly, Respects, Advanced, Refuted, Grew, Unripe, Decided}
+use Rattle.search.specs.Trails.{Orderly, Respects, Refuted, Grew, Unripe, Decided}
 use Rattle.search.specs.declared.trail.Trail.{Trail}
 use Rattle.search.proofs.Picking.{with_cases}
 use Rattle.search.proofs.Reasons.{member_cases, true_cases, one_true, subset_true}

@@ -1,11 +1,10 @@
 -- The numbers above a mark, in blocks: one for each clear bit of the mark.
-use Rattle.std.proofs.Common.{◌≡◌, ℕ, ◌+◌, ◌-◌, ◌*◌, ◌%◌, ◌^◌, ◌<◌, ◌≤◌, Bool, true, false, cond, ◌⊎◌, is_some, Some, None, Option, sym, refl, ap, ◌∙◌, subst, inl, inr, arith, pow_pos, below_more, MatchOption}
+use Rattle.std.proofs.Common.{◌≡◌, ℕ, ◌+◌, ◌-◌, ◌*◌, ◌%◌, ◌^◌, ◌<◌, ◌≤◌, Bool, true, false, cond, is_some, Some, None, Option, sym, refl, ap, ◌∙◌, subst, inl, inr, arith, pow_pos, below_more, MatchOption}
 use lib.Bits.{bit_or}
 use Rattle.std.proofs.lemmas.Nat.{one_shl}
 use Rattle.std.proofs.lemmas.Bool.{cases_eq, cases_lt, cases_order, false≢true}
-use Rattle.programs.specs.declared.literal.Literal.{Literal}
 use Rattle.programs.specs.declared.literal.LiteralSet.{LiteralSet}
-use Rattle.programs.specs.Literals.{bit, Member, Subset, Difference, Union, Added, with_literal, no_literals, Interpretation, BitBeyond, TrueIn, AllTrue, literals_of}
+use Rattle.programs.specs.Literals.{bit, Member, Difference, Union, Added, with_literal, no_literals, Interpretation, BitBeyond, TrueIn, AllTrue, literals_of}
 use Rattle.programs.specs.Programs.{Program, Model}
 use Rattle.programs.proofs.Bits.{bit_cases, bit_lt, bit-bit_or, bit_high, bit_power_same, bit_power_other, mask_bit, bits_less, top_difference, interpretation_below}
 use Rattle.programs.proofs.Sets.{literals_of_true}

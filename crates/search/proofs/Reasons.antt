@@ -1,5 +1,5 @@
 -- Trails: what is known, why, and how the unit step carries them on.
-use Rattle.std.proofs.Common.{◌≡◌, ℕ, zero, suc, ◌-◌, ◌*◌, ◌%◌, ◌^◌, ◌<◌, ◌≤◌, Bool, true, false, cond, not, ◌⊎◌, List, length, get_or, set, replicate, Result, sym, refl, ap, ◌∙◌, subst, inl, inr, arith, length-set, get_or-set_other, get_or-set_same}
+use Rattle.std.proofs.Common.{◌≡◌, ℕ, zero, suc, ◌-◌, ◌*◌, ◌%◌, ◌^◌, ◌<◌, Bool, true, false, cond, not, ◌⊎◌, List, get_or, set, replicate, Result, sym, refl, ap, ◌∙◌, subst, inl, inr, arith, length-set, get_or-set_other, get_or-set_same}
 use lib.Bits.{bit_and, bit_or}
 use lib.ListN.{length-replicate}
 use Rattle.std.specs.List.{AllByRecursion}
@@ -15,7 +15,7 @@ use Rattle.programs.proofs.Bits.{bit_cases, bit_lt, bit-bit_or, bit_power_same, 
 use Rattle.programs.proofs.Sets.{empty_subset}
 use Rattle.search.specs.Nogoods.{Avoids, NoGood, Sole, Consistent}
 use Rattle.search.specs.Rows.{Learns}
-use Rattle.search.specs.Trails.{Orderly, Respects, Behind, Extended, Advanced, Refuted, Narrowed, Unripe, UnitStep}
+use Rattle.search.specs.Trails.{Orderly, Behind, Extended, Advanced, Refuted, Narrowed, Unripe, UnitStep}
 use Rattle.search.specs.declared.trail.Trail.{Trail}
 use Rattle.search.proofs.Picking.{same_literal, with_cases, no_bit}
 

@@ -1,20 +1,20 @@
 -- What the rules say of every model: rows, blocked rules, unfounded sets.
-use Rattle.std.proofs.Common.{◌≡◌, ℕ, ◌+◌, ◌-◌, ◌^◌, ◌<◌, ◌≤◌, Bool, true, false, ◌⊎◌, List, length, get_or, is_some, IfSome, Some, None, Option, sym, refl, ap, ◌∙◌, subst, inl, inr, arith, pow_pos, pow_mono, below_more, MatchOption}
-use Rattle.std.specs.List.{HoldsAt, ContainsAt}
+use Rattle.std.proofs.Common.{◌≡◌, ℕ, ◌+◌, ◌^◌, ◌<◌, true, false, ◌⊎◌, List, length, get_or, is_some, IfSome, Some, None, Option, sym, ap, ◌∙◌, subst, inl, inr, arith, pow_pos, pow_mono, below_more, MatchOption}
+use Rattle.std.specs.List.{HoldsAt}
 use Rattle.std.proofs.ByRecursion.{All-get_or, has_get_or}
 use Rattle.std.proofs.lemmas.List.{get_or_default}
 use Rattle.std.proofs.lemmas.Bool.{true≢false, false≢true}
 use Rattle.programs.specs.declared.literal.Literal.{Literal}
 use Rattle.programs.specs.declared.literal.LiteralSet.{LiteralSet}
-use Rattle.programs.specs.Literals.{Member, Subset, complement, no_literals, Disjoint, Union, Difference, Complements, Interpretation, TrueIn, AllTrue, literals_of}
+use Rattle.programs.specs.Literals.{Member, Subset, complement, no_literals, Disjoint, Union, Complements, Interpretation, TrueIn, AllTrue, literals_of}
 use Rattle.programs.specs.Programs.{Rule, Justification, Program, ProgramFits, RuleFits, Model, Reduct, Closed, Holds, rule_at, no_rule}
 use Rattle.programs.specs.Questions.{Settles, HoldsAs, AnswersAs}
 use Rattle.programs.proofs.Bits.{interpretation_below}
 use Rattle.programs.proofs.Sets.{literals_of_true, some_difference}
-use Rattle.search.specs.Nogoods.{Avoids, NoGood, Sole}
+use Rattle.search.specs.Nogoods.{Avoids, NoGood}
 use Rattle.search.specs.Rows.{Keeps, KeepsAll, Body, Opposes, RowOf, RowHolds, Prepared, Blocks, BlocksAll}
 use Rattle.search.specs.declared.rows.KnownRule.{KnownRule}
-use Rattle.search.proofs.Reasons.{member_cases, one_true, subset_true, union_true, complement_twice}
+use Rattle.search.proofs.Reasons.{one_true, subset_true, union_true}
 
 pub at_of : {X : Type 0} (P : X → Type 0) (xs : List X) (i : ℕ) (d : X) → i < length xs → P (get_or xs i d) → HoldsAt P xs i
 at_of P xs i d h p e = subst P (get_or_default xs i d e h) p

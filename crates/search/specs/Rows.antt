@@ -1,5 +1,5 @@
 -- The rules as a search keeps them, and the set of each rule that no model has.
-use Rattle.std.specs.Prelude.{◌≡◌, ℕ, ◌<◌, ◌≤◌, ◌⊎◌, List, length, get_or, IfSome, MatchOption}
+use Rattle.std.specs.Prelude.{◌≡◌, ℕ, ◌<◌, ◌⊎◌, List, length, IfSome, MatchOption}
 use Rattle.std.specs.List.{HoldsAt, AllByRecursion}
 use Rattle.programs.specs.declared.literal.LiteralSet.{LiteralSet}
 use Rattle.programs.specs.Literals.{Subset, Disjoint, Union, Complements, AllTrue}

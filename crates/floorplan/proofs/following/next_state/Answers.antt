@@ -1,4 +1,4 @@
-use Rattle.std.proofs.Common.{ℕ, ◌<◌, sym, ap, ◌∙◌, subst, inl, inr, arith}
+use Rattle.std.proofs.Common.{sym, ◌∙◌, subst, inl, inr, arith}
 use Rattle.programs.specs.Literals.{BitBeyond}
 use Rattle.programs.proofs.Bits.{bit_high}
 use Rattle.floorplan.proofs.Words.{known_low, known_word, found_next}

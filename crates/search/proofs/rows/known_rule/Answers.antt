@@ -1,6 +1,6 @@
 use Rattle.std.proofs.Common.{ap, subst, arith}
 use Rattle.std.proofs.ByRecursion.{All-get_or}
-use Rattle.programs.specs.Programs.{RuleFits, rule_at, no_rule}
+use Rattle.programs.specs.Programs.{RuleFits, no_rule}
 use Rattle.search.specs.Nogoods.{Sole}
 use Rattle.search.proofs.Picking.{sole_of}
 use Rattle.search.proofs.Rules.{amounts_of}

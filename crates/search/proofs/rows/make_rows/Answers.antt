@@ -1,4 +1,4 @@
-use Rattle.std.proofs.Common.{◌≢◌, get_or, sym, subst, arith, get_or-set_other, get_or-set_same, below_more}
+use Rattle.std.proofs.Common.{◌≢◌, sym, subst, arith, get_or-set_other, get_or-set_same, below_more}
 use Rattle.std.specs.List.{HoldsAt}
 use Rattle.programs.specs.Literals.{no_literals}
 use Rattle.search.specs.Rows.{RowOf}

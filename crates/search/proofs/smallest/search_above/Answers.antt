@@ -1,10 +1,10 @@
-use Rattle.std.proofs.Common.{ℕ, ◌+◌, sym, ap, ◌∙◌, subst, inl, inr, arith}
+use Rattle.std.proofs.Common.{ℕ, sym, ap, ◌∙◌, subst, inl, inr, arith}
 use Rattle.std.proofs.lemmas.Bool.{false≢true}
 use Rattle.programs.specs.Literals.{Interpretation, BitBeyond, literals_of}
 use Rattle.programs.proofs.Bits.{bit_test}
 use Rattle.search.specs.Rows.{Learns}
 use Rattle.search.specs.Searches.{BlockOf}
-use Rattle.search.proofs.Parts.{NoneIn, none_beyond, none_above, none_in_more, none_in_set, none_in_block, smallest_in_block}
+use Rattle.search.proofs.Parts.{none_beyond, none_above, none_in_more, none_in_set, none_in_block, smallest_in_block}
 use Rattle.search.proofs.smallest.search_above.Goals as goal
 use Rattle.search.proofs.smallest.search_above.Goals.{then-mark-atom-eq0+in_default-search_from, else-mark-atom-eq0}
 

@@ -1,4 +1,3 @@
-use Rattle.programs.specs.Programs.{Program}
 use Rattle.search.specs.Rows.{Learns}
 use Rattle.search.proofs.Parts.{NoneIn}
 use Rattle.search.proofs.smallest.search_above.Given as goal

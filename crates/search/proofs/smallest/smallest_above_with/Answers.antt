@@ -1,4 +1,4 @@
-use Rattle.std.proofs.Common.{ℕ, ◌≤◌, sym, refl, subst, arith, rules}
+use Rattle.std.proofs.Common.{ℕ, ◌≤◌, sym, refl, subst, rules}
 use Rattle.programs.specs.Literals.{Below}
 use Rattle.search.specs.Searches.{ModelAboveWith, NamesSmallest}
 use Rattle.search.proofs.Parts.{names_any}

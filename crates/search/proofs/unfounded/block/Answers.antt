@@ -1,4 +1,3 @@
-use Rattle.std.proofs.Common.{inl, inr}
 use Rattle.std.proofs.lemmas.Bool.{false≢true}
 use Rattle.search.proofs.Reasons.{union_within, start_part}
 use Rattle.search.proofs.Rules.{blocks_clash, blocks_one, blocks_settled}
