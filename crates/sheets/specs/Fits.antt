@@ -99,7 +99,7 @@ stays_fits d l h =
 may_be_fits : (n : ℕ) (l : Literal) → l.atom < n → RuleFits n (may_be l)
 may_be_fits n l h = record { head = h; premises = none_below n; justification = only_below n l h }
 
--- joined lists and counted ones
+-- lists of lists, and numbers in a row
 All-flat_map : {X A : Type 0} (P : A → Type 0) (f : X → List A) (xs : List X) → AllByRecursion (λ x. AllByRecursion P (f x)) xs → AllByRecursion P (flat_map f xs)
 All-flat_map P f [] h = tt
 All-flat_map P f (x ∷ xs) h = All-append P (f x) (flat_map f xs) h.0 (All-flat_map P f xs h.1)
