@@ -1,6 +1,8 @@
 -- A program with formulas: a and b are chosen freely, and c is true exactly where a or b is.
-use Rattle.std.specs.Prelude.{ℕ, ◌<◌, Bool, true, false, [], ◌∷◌}
-use Rattle.std.proofs.Common.{arith}
+use Rattle.std.specs.Prelude.{ℕ, ◌<◌, true, false, [], ◌∷◌}
+use Rattle.std.proofs.Common.{arith, rules}
+use Rattle.std.proofs.lemmas.List.Elements.{All-from_recursion}
+use Rattle.programs.specs.declared.literal.Literal.{Literal}
 use Rattle.programs.specs.Literals.{no_literals}
 use Rattle.programs.specs.Formulas.{Formula, atom, negation, disjunction, AtomsBelow}
 use Rattle.programs.specs.Programs.{Rule, formula, Program, RuleFits, ProgramFits}
@@ -28,36 +30,14 @@ either_program = record {
       ∷ yes_assuming 2 either ∷ not_assuming 2 (negation either) ∷ [];
 }
 
--- each rule of it has no premises, and atoms below 3
-rule_fits : (b : Bool) (a : ℕ) (f : Formula) → a < 3 → AtomsBelow 3 f → RuleFits 3 (record { head = record { atom = a; negative = b }; premises = no_literals; justification = formula f })
-rule_fits b a f h k = record { head = h; premises = none_below 3; justification = k }
+-- a rule without premises fits where its atoms are below n
+pub bare_rule_fits : (n : ℕ) (l : Literal) (f : Formula) → l.atom < n → AtomsBelow n f → RuleFits n (record { head = l; premises = no_literals; justification = formula f })
+bare_rule_fits n l f h k = record { head = h; premises = none_below n; justification = k }
 
 pub either_fits : ProgramFits either_program
-either_fits =
-    let zeroth : 0 < 3 = omega arith in
-    let first : 1 < 3 = omega arith in
-    let second : 2 < 3 = omega arith in
-    record {
-      some = omega arith;
-      few = omega arith;
-      short = omega arith;
-      each = (
-        rule_fits false 0 (atom 0) zeroth zeroth,
-        (
-          rule_fits true 0 (negation (atom 0)) zeroth zeroth,
-          (
-            rule_fits false 1 (atom 1) first first,
-            (
-              rule_fits true 1 (negation (atom 1)) first first,
-              (
-                rule_fits false 2 either second (zeroth, first),
-                (
-                  rule_fits true 2 (negation either) second (zeroth, first),
-                  tt,
-                ),
-              ),
-            ),
-          ),
-        ),
-      );
-    }
+either_fits = record {
+  some = omega arith;
+  few = omega arith;
+  short = omega arith;
+  each = All-from_recursion (RuleFits 3) either_program.rules (search (rules, bare_rule_fits, arith));
+}

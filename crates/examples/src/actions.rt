@@ -7,30 +7,33 @@ use sheets::action_sheet::ActionSheet;
 use sheets::law::{DynamicLaw, Law, StaticLaw};
 use std::test::Fail;
 
-const ISSUED: u8 = 0;
-
-const ON_SITE: u8 = 1;
+// In the order of their numbers.
+#[derive(Clone, Copy)]
+enum Fluent {
+    Issued,
+    OnSite,
+}
 
 // "issued if on_site." and "send causes on_site if issued."
 const LAWS: [Law; 2] = [
     Law::Static(StaticLaw {
         head: Literal {
-            atom: ISSUED,
+            atom: Fluent::Issued as u8,
             negative: false,
         },
         condition: LiteralSet {
-            positive: 1 << ON_SITE,
+            positive: 1 << Fluent::OnSite as u8,
             negative: 0,
         },
     }),
     Law::Dynamic(DynamicLaw {
         action: 0,
         head: Literal {
-            atom: ON_SITE,
+            atom: Fluent::OnSite as u8,
             negative: false,
         },
         condition: LiteralSet {
-            positive: 1 << ISSUED,
+            positive: 1 << Fluent::Issued as u8,
             negative: 0,
         },
     }),

@@ -1,4 +1,5 @@
-// A rule source that computes its answers: a and b are chosen freely, and c is true exactly where a or b is.
+// A rule source that computes its answers: a and b are chosen freely, and c is true exactly where a or b is. Like the other
+// example of a source with formulas it is whole in itself, down to the premises that no rule has.
 ghost use Rattle.std.specs.Prelude.{◌≡◌, ◌==◌};
 ghost use Rattle.programs.specs.Literals.{bit};
 ghost use Rattle.examples.specs.Eithers.{either_program, either_fits};
@@ -18,12 +19,10 @@ pub fn is_true(atom: u8, interpretation: u64) -> bool
         positive: interpretation,
         negative: 0,
     }
-    .contains(Literal {
-        atom,
-        negative: false,
-    })
+    .contains(Literal::positive(atom))
 }
 
+// One line for each rule, as the program is listed: that is how the example is to be read.
 impl RuleSource for Either {
     ghost program = { λ _. either_program };
 
@@ -39,30 +38,7 @@ impl RuleSource for Either {
 
     fn head(&self, i: usize) -> Result<Literal, Refusal> {
         match i {
-            0 => Ok(Literal {
-                atom: 0,
-                negative: false,
-            }),
-            1 => Ok(Literal {
-                atom: 0,
-                negative: true,
-            }),
-            2 => Ok(Literal {
-                atom: 1,
-                negative: false,
-            }),
-            3 => Ok(Literal {
-                atom: 1,
-                negative: true,
-            }),
-            4 => Ok(Literal {
-                atom: 2,
-                negative: false,
-            }),
-            5 => Ok(Literal {
-                atom: 2,
-                negative: true,
-            }),
+            0..=5 => Ok(Literal::numbered(i as u8)),
             _ => Err(Refusal::OutOfRange),
         }
     }

@@ -11,24 +11,15 @@ use programs::source::RuleSource;
 #[derive(Clone, Copy)]
 pub struct Guarded;
 
-// An atom, as a literal.
-fn yes(atom: u8) -> Literal
-    ensures { result ≡ record { atom = atom; negative = false } }
-{
-    Literal {
-        atom,
-        negative: false,
-    }
-}
-
 // What the known literals say of an atom.
 fn foresee(atom: u8, known: LiteralSet) -> Option<bool>
     ensures { Foresees (atom_formula atom) known result }
 {
-    if known.contains(yes(atom)) {
+    let literal = Literal::positive(atom);
+    if known.contains(literal) {
         return Some(true);
     }
-    if known.contains(yes(atom).complement()) {
+    if known.contains(literal.complement()) {
         return Some(false);
     }
     None
@@ -38,7 +29,7 @@ fn foresee(atom: u8, known: LiteralSet) -> Option<bool>
 fn opposite(x: Option<bool>) -> Option<bool>
     ensures { (b : TruthValue) → Tells x b → Tells result (not b) }
 {
-    Some(!x?)
+    x.map(|b| !b)
 }
 
 // What is known of a conjunction: one false part is enough.
@@ -52,17 +43,14 @@ fn both(x: Option<bool>, y: Option<bool>) -> Option<bool>
     }
 }
 
-// What is known of a disjunction: one true part is enough.
+// What is known of a disjunction: the negation of the conjunction of both negations.
 fn any(x: Option<bool>, y: Option<bool>) -> Option<bool>
     ensures { (b c : TruthValue) → Tells x b → Tells y c → Tells result (b || c) }
 {
-    match (x, y) {
-        (Some(true), _) | (_, Some(true)) => Some(true),
-        (Some(false), Some(false)) => Some(false),
-        _ => None,
-    }
+    opposite(both(opposite(x), opposite(y)))
 }
 
+// One line for each rule, as the program is listed: that is how the example is to be read.
 impl RuleSource for Guarded {
     ghost program = { λ _. guarded_program };
 
@@ -78,14 +66,8 @@ impl RuleSource for Guarded {
 
     fn head(&self, i: usize) -> Result<Literal, Refusal> {
         match i {
-            0 | 8 => Ok(yes(0)),
-            1 | 9 => Ok(yes(0).complement()),
-            2 => Ok(yes(1)),
-            3 => Ok(yes(1).complement()),
-            4 => Ok(yes(2)),
-            5 => Ok(yes(2).complement()),
-            6 => Ok(yes(3)),
-            7 => Ok(yes(3).complement()),
+            0..=7 => Ok(Literal::numbered(i as u8)),
+            8 | 9 => Ok(Literal::numbered((i - 8) as u8)),
             _ => Err(Refusal::OutOfRange),
         }
     }

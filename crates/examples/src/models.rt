@@ -9,6 +9,7 @@ use programs::source::{ClausalSource, RuleSource};
 use std::process::Abort;
 use std::test::Fail;
 
+// A constant cannot call a function, so these spell their literals out.
 const A: Literal = Literal {
     atom: 0,
     negative: false,
@@ -198,11 +199,8 @@ fn closures(rt: HostRuntime) -> Result<(), Fail> {
 #[test]
 fn all_64_atoms(rt: HostRuntime) -> Result<(), Fail> {
     let mut rules = [fact(A); 64];
-    for atom in 0..64u8 {
-        rules[atom as usize] = fact(Literal {
-            atom,
-            negative: false,
-        });
+    for (atom, rule) in (0..64u8).zip(&mut rules) {
+        *rule = fact(Literal::positive(atom));
     }
     let all = RuleTable::new(64, rules)?;
     assert_eq!(rt; check_model(&all, u64::MAX), Ok(true));
@@ -216,30 +214,9 @@ fn all_64_atoms(rt: HostRuntime) -> Result<(), Fail> {
 #[test]
 fn free_choice_of_64_atoms(rt: HostRuntime) -> Result<(), Fail> {
     let mut rules = [fact(A); 128];
-    for atom in 0..64u8 {
-        let bit = 1u64 << atom;
-        let positive = Literal {
-            atom,
-            negative: false,
-        };
-        let negative = Literal {
-            atom,
-            negative: true,
-        };
-        rules[2 * atom as usize] = assuming(
-            positive,
-            LiteralSet {
-                positive: bit,
-                negative: 0,
-            },
-        );
-        rules[2 * atom as usize + 1] = assuming(
-            negative,
-            LiteralSet {
-                positive: 0,
-                negative: bit,
-            },
-        );
+    for (number, rule) in (0..128u8).zip(&mut rules) {
+        let literal = Literal::numbered(number);
+        *rule = assuming(literal, LiteralSet::EMPTY.with(literal)?);
     }
     let free = RuleTable::new(64, rules)?;
     assert_eq!(rt; check_model(&free, 0), Ok(true));
@@ -257,10 +234,7 @@ fn limits_of_a_program(rt: HostRuntime) {
     assert!(rt; RuleTable::new(1, [assuming(A, ONLY_NOT_B)]).is_err());
     assert!(rt; RuleTable::new(1, [fact(A); 4097]).is_err());
     assert!(rt; RuleTable::new(1, [fact(A); 4096]).is_ok());
-    let top = Literal {
-        atom: 63,
-        negative: true,
-    };
+    let top = Literal::positive(63).complement();
     assert!(rt; RuleTable::new(63, [fact(top)]).is_err());
     assert!(rt; RuleTable::new(64, [fact(top)]).is_ok());
 }

@@ -1,5 +1,4 @@
 // A program of clausal rules that stand in an array.
-ghost use Rattle.std.specs.Prelude.{◌≡◌, length};
 ghost use Rattle.programs.specs.Programs.{ProgramFits};
 ghost use Rattle.examples.specs.Tables.{table_program};
 
@@ -9,7 +8,6 @@ use programs::rule::ClausalRule;
 pub struct RuleTable<const N: usize> {
     atoms: u8,
     rules: [ClausalRule; N],
-    ghost wide: { length rules ≡ N },
     ghost fit: { ∥ ProgramFits (table_program atoms rules) ∥₁ },
 }
 

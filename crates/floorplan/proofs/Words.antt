@@ -10,8 +10,8 @@ use Rattle.programs.specs.Programs.{Program, Model}
 use Rattle.programs.proofs.Bits.{bit_cases, bit_lt, bit-bit_and, bit_high, mask_bit, bits_same, below_interpretation, interpretation_below}
 use Rattle.programs.proofs.Sets.{literals_of_true}
 use Rattle.search.specs.Searches.{Above, ModelAboveWith, NamesSmallest}
-use Rattle.floorplan.specs.Next.{step}
-use Rattle.floorplan.specs.Following.{known, MayFollow, steps_to}
+use Rattle.floorplan.specs.Next.{step, known}
+use Rattle.floorplan.specs.Following.{MayFollow, steps_to}
 
 pub known_low : (before action : ℕ) → before < 512 → action < 7 → known before action < 2 ^ 16
 known_low before action b a = or_lt 16 before (2 ^ (9 + action)) (omega arith) (pow_below (9 + action) 16 (omega arith))
@@ -80,12 +80,12 @@ module _ (p : Program) (before action : ℕ) (n : p.atoms ≡ 25) (b : before < 
     λ s c. omega (arith, h.1 (step before action s) (of_state above s c), step_value before action s b a, known_low before action b a),
   )
 
-  -- the same of what the code asks for
-  pub found_next : (above : Option ℕ) (word : ℕ) (G : LiteralSet) (mark o r : Option ℕ) → word ≡ known before action → G ≡ literals_of 16 word → mark ≡ steps_to word above → o ≡ r → NamesSmallest (ModelAboveWith p G mark) o → NamesSmallest (λ s. MayFollow p before action s × Above above s) (option_map (λ w. w / 2 ^ 16) r)
+  -- the same of what the code asks for and answers
+  pub found_next : (above : Option ℕ) (word : ℕ) (G : LiteralSet) (mark o r : Option ℕ) → word ≡ known before action → G ≡ literals_of 16 word → mark ≡ steps_to word above → r ≡ option_map (λ w. w / 2 ^ 16) o → NamesSmallest (ModelAboveWith p G mark) o → NamesSmallest (λ s. MayFollow p before action s × Above above s) r
   found_next above word G mark o r k g m e h =
       let asked = subst (λ X. NamesSmallest (ModelAboveWith p X mark) o) (g ∙ ap (literals_of 16) k) h in
       let marked = subst (λ x. NamesSmallest (ModelAboveWith p (literals_of 16 (known before action)) x) o) (m ∙ ap (λ x. steps_to x above) k) asked in
-      names_next above r (subst (NamesSmallest (ModelAboveWith p (literals_of 16 (known before action)) (steps_to (known before action) above))) e marked)
+      subst (NamesSmallest (λ s. MayFollow p before action s × Above above s)) (sym e) (names_next above o marked)
 
 -- `before | 1 << (9 + action)`
 pub known_word : (before action : ℕ) → action < 7 → bit_or before ((1 * 2 ^ (9 + action)) % 2 ^ 64) ≡ known before action

@@ -1,15 +1,11 @@
 -- The first state that may follow a state when an action is taken, of those above one that is named, on a sheet of nine fluents and seven actions.
-use Rattle.std.specs.Prelude.{◌≡◌, ℕ, ◌+◌, ◌*◌, ◌^◌, ◌<◌, IfSome, Option, Result, MatchResult, bit_or}
+use Rattle.std.specs.Prelude.{◌≡◌, ℕ, ◌*◌, ◌^◌, ◌<◌, IfSome, Option, Result, MatchResult, bit_or}
 use Rattle.std.specs.Option.{option_map}
 use Rattle.programs.specs.declared.refusal.Refusal.{Refusal}
 use Rattle.programs.specs.Programs.{Program, Model}
 use Rattle.programs.specs.Refusals.{number}
 use Rattle.search.specs.Searches.{Above, NamesSmallest}
 use Rattle.floorplan.specs.Next.{step}
-
--- the state before at time 0, and one action done
-abbrev pub known : ℕ → ℕ → ℕ
-known before action = bit_or before (2 ^ (9 + action))
 
 -- the state s may follow: the step to it is a model
 abbrev pub MayFollow : Program → ℕ → ℕ → ℕ → Type 0

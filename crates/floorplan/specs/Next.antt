@@ -5,6 +5,17 @@ use Rattle.programs.specs.Literals.{Interpretation, BitBeyond}
 use Rattle.programs.specs.Programs.{Program, Model}
 use Rattle.programs.specs.Refusals.{number}
 
+-- the state before at time 0, and one action done
+abbrev pub known : ℕ → ℕ → ℕ
+known before action = bit_or before (2 ^ (9 + action))
+
+-- that word; refused with 6 exactly where there is no such state or action
+abbrev pub AnswersKnown : ℕ → ℕ → Result ℕ Refusal → Type 0
+AnswersKnown before action r =
+    MatchResult r
+    (λ word. (before < 512) × (action < 7) × (word ≡ known before action))
+    (λ e. ((512 ≤ before) ⊎ (7 ≤ action)) × (number e ≡ 6))
+
 -- the interpretation with the state before at time 0, one action done, and the state after at time 1
 abbrev pub step : ℕ → ℕ → ℕ → ℕ
 step before action after = bit_or (bit_or before (2 ^ (9 + action))) (after * 2 ^ 16)

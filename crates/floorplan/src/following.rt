@@ -3,8 +3,8 @@ ghost use Rattle.std.specs.Prelude.{◌≡◌, ◌<◌, ◌≤◌, MatchOption, 
 ghost use Rattle.programs.specs.Refusals.{number};
 ghost use Rattle.floorplan.specs.Following.{StateIn, steps_to, AnswersNextState};
 
-use crate::allowed::{LATER, STATES};
-use crate::project::{ACTION_COUNT, FLUENT_COUNT};
+use crate::allowed::{LATER, STATES, known_before};
+use crate::fluent::FLUENT_COUNT;
 use programs::literal::LiteralSet;
 use programs::refusal::Refusal;
 use programs::source::RuleSource;
@@ -17,16 +17,14 @@ const ATOMS: u8 = LATER + FLUENT_COUNT;
 fn step_to(known: u64, state: Option<usize>) -> Result<Option<u64>, Refusal>
     ensures { MatchResult result (λ mark. StateIn state × (mark ≡ steps_to known state)) (λ e. (StateIn state → ⊥) × (number e ≡ 6)) }
 {
-    let Some(state) = state else {
-        return Ok(None);
-    };
-    if state >= STATES {
+    if state.is_some_and(|state| state >= STATES) {
         return Err(Refusal::OutOfRange);
     }
-    Ok(Some(known | (state as u64) << LATER))
+    Ok(state.map(|state| known | (state as u64) << LATER))
 }
 
 // The first state that may follow a state when an action is taken; where a state is named, the first above that.
+// A public call keeps its signature: the state and the action are numbers, and one that is out of range is refused.
 pub fn next_state<S: RuleSource>(
     source: &S,
     before: usize,
@@ -35,14 +33,12 @@ pub fn next_state<S: RuleSource>(
 ) -> Result<Option<usize>, Refusal>
     ensures { AnswersNextState (S.program source.now) before action above result }
 {
-    if source.atoms() != ATOMS || before >= STATES || action >= ACTION_COUNT {
+    if source.atoms() != ATOMS {
         return Err(Refusal::OutOfRange);
     }
-    let known = before as u64 | 1 << (FLUENT_COUNT + action);
+    let known = known_before(before, action)?;
     let mark = step_to(known, above)?;
     let given = LiteralSet::of_interpretation(LATER, known)?;
-    match smallest_above_with(source, given, mark)?.model {
-        Some(model) => Ok(Some((model >> LATER) as usize)),
-        None => Ok(None),
-    }
+    let found = smallest_above_with(source, given, mark)?;
+    Ok(found.model.map(|model| (model >> LATER) as usize))
 }

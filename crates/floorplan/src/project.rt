@@ -1,221 +1,165 @@
-// The project: what is said of a sheet, what can be done with it, the laws, and the moves of sheet A-104.
+// The project: its laws, and the moves of sheet A-104. A constant cannot call a function, so the laws spell their literals out.
+use crate::action::Action;
+use crate::fluent::Fluent;
 use programs::literal::{Literal, LiteralSet};
 use sheets::law::{DynamicLaw, Law, StaticLaw};
-
-pub const FLUENT_COUNT: u8 = 9;
-
-pub const ACTION_COUNT: u8 = 7;
-
-pub const FLUENTS: [&str; FLUENT_COUNT as usize] = [
-    "drafted",
-    "filed",
-    "checked",
-    "approved",
-    "returned",
-    "issued",
-    "on_site",
-    "superseded",
-    "archived",
-];
-
-const DRAFTED: u8 = 0;
-
-const FILED: u8 = 1;
-
-const CHECKED: u8 = 2;
-
-const APPROVED: u8 = 3;
-
-const RETURNED: u8 = 4;
-
-const ISSUED: u8 = 5;
-
-const ON_SITE: u8 = 6;
-
-const SUPERSEDED: u8 = 7;
-
-const ARCHIVED: u8 = 8;
-
-pub const ACTIONS: [&str; ACTION_COUNT as usize] = [
-    "draft",
-    "file",
-    "review",
-    "issue",
-    "send",
-    "supersede",
-    "archive",
-];
-
-const DRAFT: u8 = 0;
-
-const FILE: u8 = 1;
-
-const REVIEW: u8 = 2;
-
-const ISSUE: u8 = 3;
-
-const SEND: u8 = 4;
-
-const SUPERSEDE: u8 = 5;
-
-pub const ARCHIVE: u8 = 6;
 
 // "drafted if filed." and so on: what holds of every state.
 const DRAFTED_IF_FILED: StaticLaw = StaticLaw {
     head: Literal {
-        atom: DRAFTED,
+        atom: Fluent::Drafted as u8,
         negative: false,
     },
     condition: LiteralSet {
-        positive: 1 << FILED,
+        positive: 1 << Fluent::Filed as u8,
         negative: 0,
     },
 };
 
 const APPROVED_UNLESS_RETURNED: StaticLaw = StaticLaw {
     head: Literal {
-        atom: APPROVED,
+        atom: Fluent::Approved as u8,
         negative: false,
     },
     condition: LiteralSet {
-        positive: 1 << CHECKED,
-        negative: 1 << RETURNED,
+        positive: 1 << Fluent::Checked as u8,
+        negative: 1 << Fluent::Returned as u8,
     },
 };
 
 const RETURNED_UNLESS_APPROVED: StaticLaw = StaticLaw {
     head: Literal {
-        atom: RETURNED,
+        atom: Fluent::Returned as u8,
         negative: false,
     },
     condition: LiteralSet {
-        positive: 1 << CHECKED,
-        negative: 1 << APPROVED,
+        positive: 1 << Fluent::Checked as u8,
+        negative: 1 << Fluent::Approved as u8,
     },
 };
 
 const APPROVED_IF_ISSUED: StaticLaw = StaticLaw {
     head: Literal {
-        atom: APPROVED,
+        atom: Fluent::Approved as u8,
         negative: false,
     },
     condition: LiteralSet {
-        positive: 1 << ISSUED,
+        positive: 1 << Fluent::Issued as u8,
         negative: 0,
     },
 };
 
 const ISSUED_IF_ON_SITE: StaticLaw = StaticLaw {
     head: Literal {
-        atom: ISSUED,
+        atom: Fluent::Issued as u8,
         negative: false,
     },
     condition: LiteralSet {
-        positive: 1 << ON_SITE,
+        positive: 1 << Fluent::OnSite as u8,
         negative: 0,
     },
 };
 
 const NOT_ON_SITE_IF_SUPERSEDED: StaticLaw = StaticLaw {
     head: Literal {
-        atom: ON_SITE,
+        atom: Fluent::OnSite as u8,
         negative: true,
     },
     condition: LiteralSet {
-        positive: 1 << SUPERSEDED,
+        positive: 1 << Fluent::Superseded as u8,
         negative: 0,
     },
 };
 
 const NOT_ARCHIVED_IF_ON_SITE: StaticLaw = StaticLaw {
     head: Literal {
-        atom: ARCHIVED,
+        atom: Fluent::Archived as u8,
         negative: true,
     },
     condition: LiteralSet {
-        positive: 1 << ON_SITE,
+        positive: 1 << Fluent::OnSite as u8,
         negative: 0,
     },
 };
 
 // "draft causes drafted." and so on: what an action makes hold next.
 const DRAFTING: DynamicLaw = DynamicLaw {
-    action: DRAFT,
+    action: Action::Draft as u8,
     head: Literal {
-        atom: DRAFTED,
+        atom: Fluent::Drafted as u8,
         negative: false,
     },
     condition: LiteralSet::EMPTY,
 };
 
 const FILING: DynamicLaw = DynamicLaw {
-    action: FILE,
+    action: Action::File as u8,
     head: Literal {
-        atom: FILED,
+        atom: Fluent::Filed as u8,
         negative: false,
     },
     condition: LiteralSet {
-        positive: 1 << DRAFTED,
+        positive: 1 << Fluent::Drafted as u8,
         negative: 0,
     },
 };
 
 const REVIEWING: DynamicLaw = DynamicLaw {
-    action: REVIEW,
+    action: Action::Review as u8,
     head: Literal {
-        atom: CHECKED,
+        atom: Fluent::Checked as u8,
         negative: false,
     },
     condition: LiteralSet {
-        positive: 1 << FILED,
+        positive: 1 << Fluent::Filed as u8,
         negative: 0,
     },
 };
 
 const ISSUING: DynamicLaw = DynamicLaw {
-    action: ISSUE,
+    action: Action::Issue as u8,
     head: Literal {
-        atom: ISSUED,
+        atom: Fluent::Issued as u8,
         negative: false,
     },
     condition: LiteralSet {
-        positive: 1 << APPROVED,
+        positive: 1 << Fluent::Approved as u8,
         negative: 0,
     },
 };
 
 const SENDING: DynamicLaw = DynamicLaw {
-    action: SEND,
+    action: Action::Send as u8,
     head: Literal {
-        atom: ON_SITE,
+        atom: Fluent::OnSite as u8,
         negative: false,
     },
     condition: LiteralSet {
-        positive: 1 << ISSUED,
-        negative: 1 << SUPERSEDED,
+        positive: 1 << Fluent::Issued as u8,
+        negative: 1 << Fluent::Superseded as u8,
     },
 };
 
 const SUPERSEDING: DynamicLaw = DynamicLaw {
-    action: SUPERSEDE,
+    action: Action::Supersede as u8,
     head: Literal {
-        atom: SUPERSEDED,
+        atom: Fluent::Superseded as u8,
         negative: false,
     },
     condition: LiteralSet {
-        positive: 1 << ISSUED,
+        positive: 1 << Fluent::Issued as u8,
         negative: 0,
     },
 };
 
 const ARCHIVING: DynamicLaw = DynamicLaw {
-    action: ARCHIVE,
+    action: Action::Archive as u8,
     head: Literal {
-        atom: ARCHIVED,
+        atom: Fluent::Archived as u8,
         negative: false,
     },
     condition: LiteralSet {
-        positive: 1 << ISSUED,
+        positive: 1 << Fluent::Issued as u8,
         negative: 0,
     },
 };
@@ -241,40 +185,40 @@ pub const LAWS: [Law; 14] = [
 #[derive(Clone, Copy)]
 pub struct Move {
     pub place: &'static str,
-    pub action: u8,
+    pub action: Action,
 }
 
 pub const MOVES: [Move; 8] = [
     Move {
         place: "the drafter's laptop",
-        action: DRAFT,
+        action: Action::Draft,
     },
     Move {
         place: "the office store",
-        action: FILE,
+        action: Action::File,
     },
     Move {
         place: "the office store",
-        action: REVIEW,
+        action: Action::Review,
     },
     Move {
         place: "the office store",
-        action: ISSUE,
+        action: Action::Issue,
     },
     Move {
         place: "the site tablet",
-        action: SEND,
+        action: Action::Send,
     },
     Move {
         place: "the archive",
-        action: ARCHIVE,
+        action: Action::Archive,
     },
     Move {
         place: "the office store",
-        action: SUPERSEDE,
+        action: Action::Supersede,
     },
     Move {
         place: "the archive",
-        action: ARCHIVE,
+        action: Action::Archive,
     },
 ];

@@ -1,73 +1,67 @@
 -- The bits of a word.
-use Rattle.std.proofs.Common.{◌≡◌, ℕ, zero, suc, ◌+◌, ◌-◌, ◌*◌, ◌/◌, ◌%◌, ◌^◌, ◌<◌, ◌≤◌, min, max, ◌⊎◌, sym, refl, ap, ◌∙◌, subst, inl, inr, div-one, arith, pow_pos, pow_mono}
-use native.Mathlib.Nat.{div-eq_of_lt, zero-div, div_self, div-div-eq-div-mul, pow-succ', two-pow-succ}
-use lib.Bits.{bit_and, bit_or, or_step, and_step, or_shr, and_shr}
+use Rattle.std.proofs.Common.{◌≡◌, ℕ, zero, suc, ◌+◌, ◌-◌, ◌*◌, ◌/◌, ◌%◌, ◌^◌, ◌<◌, ◌≤◌, min, max, ◌⊎◌, sym, ap, ◌∙◌, subst, inl, inr, arith, pow_pos}
+use native.Mathlib.Nat.{div-eq_of_lt, two-pow-succ}
+use lib.Bits.{bit_and, bit_or}
 use lib.Count.{ones, ones_step}
 use Rattle.std.proofs.lemmas.Bool.{cases_eq, cases_lt}
-use Rattle.std.proofs.lemmas.Nat.{shr_split, mod_below, and_mask}
+use Rattle.std.proofs.lemmas.Nat.{shr_split, mod_below}
+use Rattle.std.proofs.lemmas.Nat.Bits.{bit_at_lowest, bit_at-suc, bit_at-zero, bit_at-lt, bit_at_or, bit_at_and, bit_at-pow_same, bit_at-pow_other, bit_at_above, bit_at_ones, shr_and_one, same_from_bits}
 use Rattle.programs.specs.Literals.{bit, Interpretation, BitBeyond}
 
+-- what std says of `bit_at`, of our own word
 pub bit_lt : (x i : ℕ) → bit x i < 2
 unfolding bit
-bit_lt x i = omega arith
-
-pub bit_cases : (x i : ℕ) → (bit x i ≡ 0) ⊎ (bit x i ≡ 1)
-bit_cases x i = elim (cases_eq (bit x i) 0) [ inl e ↦ inl e | inr d ↦ inr (omega (arith, bit_lt x i, d)) ]
-
-or_low : (a b : ℕ) → bit_or a b % 2 ≡ max (a % 2) (b % 2)
-or_low a b = omega (arith, or_step a b)
-
-and_low : (a b : ℕ) → bit_and a b % 2 ≡ min (a % 2) (b % 2)
-and_low a b = omega (arith, and_step a b)
+bit_lt = bit_at-lt
 
 pub bit-bit_or : (x y i : ℕ) → bit (bit_or x y) i ≡ max (bit x i) (bit y i)
 unfolding bit
-bit-bit_or x y i = ap (λ n. n % 2) (or_shr x y i) ∙ or_low (x / 2 ^ i) (y / 2 ^ i)
+bit-bit_or = bit_at_or
 
 pub bit-bit_and : (x y i : ℕ) → bit (bit_and x y) i ≡ min (bit x i) (bit y i)
 unfolding bit
-bit-bit_and x y i = ap (λ n. n % 2) (and_shr x y i) ∙ and_low (x / 2 ^ i) (y / 2 ^ i)
+bit-bit_and = bit_at_and
 
 pub bit_none : (i : ℕ) → bit 0 i ≡ 0
 unfolding bit
-bit_none i = ap (λ n. n % 2) (zero-div (2 ^ i))
+bit_none = bit_at-zero
 
 pub bit_first : (x : ℕ) → bit x 0 ≡ x % 2
 unfolding bit
-bit_first x = ap (λ n. n % 2) (div-one x)
+bit_first = bit_at_lowest
 
 pub bit_next : (x i : ℕ) → bit x (suc i) ≡ bit (x / 2) i
 unfolding bit
-bit_next x i = ap (λ n. n % 2) (ap (λ m. x / m) (pow-succ' 2 i) ∙ sym (div-div-eq-div-mul x 2 (2 ^ i)))
-
--- words with the same bits are one word
-pub same_bits : (n x y : ℕ) → x < 2 ^ n → y < 2 ^ n → ((i : ℕ) → bit x i ≡ bit y i) → x ≡ y
-same_bits zero x y p q h = omega arith
-same_bits (suc n) x y p q h =
-    let halves = same_bits n (x / 2) (y / 2) (omega (arith, two-pow-succ n)) (omega (arith, two-pow-succ n)) (λ i. sym (bit_next x i) ∙ h (suc i) ∙ bit_next y i) in
-    omega (arith, bit_first x, bit_first y, h 0)
-
-pub below_power : (n : ℕ) → n < 2 ^ n
-below_power zero = omega arith
-below_power (suc n) = omega (arith, below_power n, two-pow-succ n)
+bit_next = bit_at-suc
 
 pub bits_same : (x y : ℕ) → ((i : ℕ) → bit x i ≡ bit y i) → x ≡ y
-bits_same x y h =
-    let a : x ≤ max x y = omega arith in
-    let b : y ≤ max x y = omega arith in
-    same_bits (max x y) x y (omega (arith, below_power x, pow_mono a)) (omega (arith, below_power y, pow_mono b)) h
+unfolding bit
+bits_same = same_from_bits
 
 pub bit_power_same : (k : ℕ) → bit (2 ^ k) k ≡ 1
 unfolding bit
-bit_power_same k = ap (λ n. n % 2) (div_self (pow_pos k))
+bit_power_same = bit_at-pow_same
 
 pub bit_power_other : (k i : ℕ) → (i ≡ k → ⊥) → bit (2 ^ k) i ≡ 0
-bit_power_other zero zero h = absurd (h refl)
-bit_power_other zero (suc i) h = bit_next 1 i ∙ bit_none i
-bit_power_other (suc k) zero h = omega (arith, bit_first (2 ^ suc k), two-pow-succ k)
-bit_power_other (suc k) (suc i) h =
-    let half : 2 ^ suc k / 2 ≡ 2 ^ k = omega (arith, two-pow-succ k) in
-    bit_next (2 ^ suc k) i ∙ ap (λ n. bit n i) half ∙ bit_power_other k i (λ e. h (ap suc e))
+unfolding bit
+bit_power_other = bit_at-pow_other
+
+-- a word has no bit at n or above exactly where it is below 2 ^ n; `low_word` is the other way
+pub bit_high : (x n i : ℕ) → x < 2 ^ n → n ≤ i → bit x i ≡ 0
+unfolding bit
+bit_high = bit_at_above
+
+-- the mask `2 ^ k - 1`
+pub mask_bit : (k i : ℕ) → i < k → bit (2 ^ k - 1) i ≡ 1
+unfolding bit
+mask_bit = bit_at_ones
+
+-- `x >> i & 1`
+pub bit_test : (x i : ℕ) → bit_and (x / 2 ^ i) 1 ≡ bit x i
+unfolding bit
+bit_test = shr_and_one
+
+pub bit_cases : (x i : ℕ) → (bit x i ≡ 0) ⊎ (bit x i ≡ 1)
+bit_cases x i = elim (cases_eq (bit x i) 0) [ inl e ↦ inl e | inr d ↦ inr (omega (arith, bit_lt x i, d)) ]
 
 -- each bit of p is one of x
 abbrev pub Within : ℕ → ℕ → Type 0
@@ -100,10 +94,6 @@ or_within x y k h o i e =
       | inr d ↦ h i (omega (arith, bit-bit_or x (2 ^ k) i, bit_power_other k i d))
     ]
 
-pub bit_high : (x n i : ℕ) → x < 2 ^ n → n ≤ i → bit x i ≡ 0
-unfolding bit
-bit_high x n i h l = let k : x < 2 ^ i = omega (arith, pow_mono l) in ap (λ m. m % 2) (div-eq_of_lt k)
-
 pub bit_place : (x n i : ℕ) → x < 2 ^ n → bit x i ≡ 1 → i < n
 bit_place x n i h e = elim (cases_lt i n) [ inl l ↦ l | inr l ↦ absurd (omega (arith, bit_high x n i h l)) ]
 
@@ -119,7 +109,7 @@ apart_mask x p h =
     bits_same (bit_and x p) 0
     (λ i. elim (bit_cases p i) [ inl e ↦ omega (arith, bit-bit_and x p i, bit_none i) | inr e ↦ omega (arith, bit-bit_and x p i, h i e, bit_none i) ])
 
--- a word has no bit at n or above exactly where it is below 2 ^ n; `bit_high` is the other way
+-- the other way of `bit_high`
 pub low_word : (n w : ℕ) → ((i : ℕ) → n ≤ i → bit w i ≡ 0) → w < 2 ^ n
 low_word zero w h = omega (arith, bits_same w 0 (λ i. h i (omega arith) ∙ sym (bit_none i)))
 low_word (suc n) w h =
@@ -152,6 +142,10 @@ below_interpretation n w h i l = bit_high w n i h l
 pub interpretation_below : (n w : ℕ) → Interpretation n w → w < 2 ^ n
 interpretation_below = low_word
 
+below_power : (n : ℕ) → n < 2 ^ n
+below_power zero = omega arith
+below_power (suc n) = omega (arith, below_power n, two-pow-succ n)
+
 some_bit : (k x : ℕ) → x < 2 ^ k → 0 < x → (i : ℕ) × (bit x i ≡ 1)
 some_bit zero x h l = absurd (omega arith)
 some_bit (suc k) x h l =
@@ -180,17 +174,6 @@ shifted_out n w h =
 
 pub shifts_out : (n w : ℕ) → w < 2 ^ n → w / 2 ^ n ≡ 0
 shifts_out n w h = div-eq_of_lt h
-
--- `x >> i & 1`
-pub bit_test : (x i : ℕ) → bit_and (x / 2 ^ i) 1 ≡ bit x i
-unfolding bit
-bit_test x i = and_mask (x / 2 ^ i) 1
-
--- the mask `2 ^ k - 1`
-pub mask_bit : (k i : ℕ) → i < k → bit (2 ^ k - 1) i ≡ 1
-mask_bit k i h =
-    let same : 2 ^ k - 1 - 0 ≡ 2 ^ k - 1 = omega arith in
-    sym (ap (λ x. bit x i) same) ∙ omega (arith, complement_bit k 0 i (pow_pos k) h, bit_none i)
 
 -- of two words that agree above a bit, the one that has it is larger; and of two words the larger has such a bit
 pub bits_less : (a w v : ℕ) → bit w a ≡ 0 → bit v a ≡ 1 → ((i : ℕ) → a < i → bit w i ≡ bit v i) → w < v

@@ -1,7 +1,7 @@
 -- From the marks of a reduct, over rounds, to its smallest closed set.
 use Rattle.std.proofs.Common.{◌≡◌, ℕ, ◌+◌, ◌^◌, ◌<◌, Bool, true, false, ◌&&◌, ◌==◌, List, length, get_or, Decides, sym, ap, ◌∙◌, subst, inl, inr, arith, below_more}
 use lib.Count.{ones}
-use Rattle.std.proofs.ByRecursion.{has_get_or}
+use Rattle.std.proofs.lemmas.List.Elements.{Contains-get_or, at_from_Contains}
 use Rattle.std.proofs.lemmas.Bool.{false≢true, cases_eq}
 use Rattle.std.proofs.lemmas.Bool.Decides.{Decides-at, Decides-like, Decides-and, Decides-eqb}
 use Rattle.programs.specs.declared.literal.LiteralSet.{LiteralSet}
@@ -45,13 +45,14 @@ module _ (p : Program) (table : List Bool) where
   -- obeying the marked rules is being closed under the reduct
   module _ (w : ℕ) (marked : Marked p w (length p.rules) table) where
     pub closed_obeys : (X : LiteralSet) → Closed (Reduct p w) X → ObeysMarked p table (length p.rules) X
-    closed_obeys X c k l on = c (rule_at p k) (has_get_or p.rules k no_rule l, (marked k l).0 on)
+    closed_obeys X c k l on = c (rule_at p k) (Contains-get_or p.rules k no_rule l, (marked k l).0 on)
 
     pub obeys_closed : (X : LiteralSet) → ObeysMarked p table (length p.rules) X → Closed (Reduct p w) X
     obeys_closed X o r kept =
-        let k = kept.0.0 in
-        let l = kept.0.1 in
-        let same : rule_at p k ≡ r = kept.0.2 no_rule in
+        let place = at_from_Contains p.rules r kept.0 in
+        let k = place.0 in
+        let l = place.1 in
+        let same : rule_at p k ≡ r = place.2 no_rule in
         subst (λ q. Obeys X q) same (o k l ((marked k l).1 (subst (λ q. Holds q.justification w) (sym same) kept.1)))
 
 -- there is one smallest closed set

@@ -1,20 +1,16 @@
 -- That a program fits can be shown in one way only, so that a source may keep the fact in a ghost field.
-use Rattle.std.proofs.Common.{ℕ, List, [], ◌∷◌, refl}
+use Rattle.std.proofs.Common.{ℕ, get_or, refl}
 use mathlib.Core.HLevel.{Π_prop, ×_prop}
 use mathlib.Core.Logic.{∥∥₁_elim}
 use native.Mathlib.Bridge.{le_prop}
-use Rattle.std.specs.List.{AllByRecursion}
+use Rattle.std.proofs.Props.{props}
 use Rattle.programs.specs.declared.literal.LiteralSet.{LiteralSet}
 use Rattle.programs.specs.Literals.{Below}
 use Rattle.programs.specs.Formulas.{Formula, falsity, truth, atom, negation, conjunction, disjunction, implication, AtomsBelow}
 use Rattle.programs.specs.Programs.{Justification, formula, literals, JustificationBelow, Rule, RuleFits, Program, ProgramFits}
 
-pub below_prop : (n : ℕ) (X : LiteralSet) → IsProp (Below n X)
-below_prop n X = Π_prop (λ l. Π_prop (λ m. le_prop))
-
-pub all_prop : {A : Type 0} (P : A → Type 0) → ((x : A) → IsProp (P x)) → (xs : List A) → IsProp (AllByRecursion P xs)
-all_prop P one [] = λ a b. refl
-all_prop P one (x ∷ xs) = ×_prop (one x) (all_prop P one xs)
+below_prop : (n : ℕ) (X : LiteralSet) → IsProp (Below n X)
+below_prop n X = hlevel props
 
 formula_prop : (n : ℕ) (f : Formula) → IsProp (AtomsBelow n f)
 formula_prop n falsity = λ a b. refl
@@ -41,7 +37,7 @@ program_prop p = λ a b i. record {
   some = le_prop a.some b.some i;
   few = le_prop a.few b.few i;
   short = le_prop a.short b.short i;
-  each = all_prop (RuleFits p.atoms) (rule_prop p.atoms) p.rules a.each b.each i;
+  each = Π_prop (λ k. Π_prop (λ d. Π_prop (λ l. rule_prop p.atoms (get_or p.rules k d)))) a.each b.each i;
 }
 
 -- the fact out of the field

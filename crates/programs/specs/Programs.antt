@@ -1,6 +1,6 @@
 -- Two-valued programs: rules, reduct, smallest closed set, model.
 use Rattle.std.specs.Prelude.{◌≡◌, ℕ, ◌<◌, ◌≤◌, true, false, List, length, slice_index_or}
-use Rattle.std.specs.List.{ContainsAt, AllByRecursion}
+use Rattle.std.specs.List.{Contains, All}
 use Rattle.programs.specs.declared.literal.Literal.{Literal}
 use Rattle.programs.specs.declared.literal.LiteralSet.{LiteralSet}
 use Rattle.programs.specs.declared.rule.ClausalRule.{ClausalRule}
@@ -44,11 +44,11 @@ pub record ProgramFits (p : Program) : Type 0 where
   pub some : 1 ≤ p.atoms
   pub few : p.atoms ≤ 64
   pub short : length p.rules ≤ 4096
-  pub each : AllByRecursion (RuleFits p.atoms) p.rules
+  pub each : All (RuleFits p.atoms) p.rules
 
 -- the reduct of p relative to w: the rules of p whose justification holds in w
 abbrev pub Reduct : Program → ℕ → Rule → Type 0
-Reduct p w r = ContainsAt p.rules r × Holds r.justification w
+Reduct p w r = Contains p.rules r × Holds r.justification w
 
 -- X has the head of each rule of R whose premises it has
 abbrev pub Closed : (Rule → Type 0) → LiteralSet → Type 0

@@ -2,8 +2,9 @@
 use Rattle.std.specs.Prelude.{◌≡◌, ℕ, ◌<◌, ◌≤◌, Bool, ◌⊎◌, length, IfSome, Decides, Option, Result, MatchResult}
 use Rattle.programs.specs.declared.literal.LiteralSet.{LiteralSet}
 use Rattle.programs.specs.declared.refusal.Refusal.{Refusal}
+use Rattle.programs.specs.declared.rule.ClausalRule.{ClausalRule}
 use Rattle.programs.specs.Literals.{Interpretation, BitBeyond, AllTrue}
-use Rattle.programs.specs.Programs.{Program, Rule, Justification, Holds, literals, rule_at, Reduct, Smallest, Model}
+use Rattle.programs.specs.Programs.{Program, Rule, Justification, Holds, literals, rule_of, rule_at, Reduct, Smallest, Model}
 use Rattle.programs.specs.Refusals.{number}
 
 -- a part of rule i; refused with 6 exactly where there is no rule i
@@ -19,6 +20,13 @@ AnswersIn p i w r =
     MatchResult r
     (λ b. (i < length p.rules) × Interpretation p.atoms w × Decides b (Holds (rule_at p i).justification w))
     (λ e. ((length p.rules ≤ i) ⊎ BitBeyond p.atoms w) × (number e ≡ 6))
+
+-- the row that stands for rule i; refused with 6 exactly where there is no rule i
+abbrev pub AnswersRow : Program → ℕ → Result ClausalRule Refusal → Type 0
+AnswersRow p i r =
+    MatchResult r
+    (λ row. (i < length p.rules) × (rule_of row ≡ rule_at p i))
+    (λ e. (length p.rules ≤ i) × (number e ≡ 6))
 
 -- the set of literals that is rule i's justification; refused with 6 exactly where there is no rule i
 abbrev pub AnswersLiterals : Program → ℕ → Result LiteralSet Refusal → Type 0

@@ -3,7 +3,7 @@ use Rattle.std.specs.Prelude.{ℕ, List, codes}
 use Rattle.programs.specs.declared.refusal.Refusal.{Refusal}
 use Rattle.programs.specs.declared.refusal.Refusal.TheVariants.{OutOfRange}
 
--- the number that callers know it by
+-- the number that callers know it by; each contract says its own number, since the calls will differ in theirs
 abbrev pub number : Refusal → ℕ
 number OutOfRange = 6
 

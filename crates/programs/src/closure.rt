@@ -10,20 +10,21 @@ use crate::literal::{LiteralSet, is_interpretation};
 use crate::refusal::Refusal;
 use crate::rule::MAX_RULES;
 use crate::source::RuleSource;
+use arrayvec::ArrayVec;
 
-// Marks the rules whose justification holds in the interpretation, the reduct. Each justification is asked once.
+// Marks the rules whose justification holds in the interpretation, the reduct. Each justification is asked once, by the
+// number of its rule, as a source is asked. The marks are pushed: `collect` into such a vector answers with an error of memory.
 fn mark_reduct<S: RuleSource>(
     source: &S,
     interpretation: u64,
-    marks: &mut [bool],
-) -> Result<(), Refusal>
-    requires { length marks.old ≡ 4096 }
-    ensures { MatchResult result (λ _. Marked (S.program source.now) interpretation (length (S.program source.now).rules) marks.new) (λ e. BitBeyond (S.program source.now).atoms interpretation × (number e ≡ 6)) }
+) -> Result<ArrayVec<bool, MAX_RULES>, Refusal>
+    ensures { MatchResult result (λ marks. length marks.items ≡ length (S.program source.now).rules × Marked (S.program source.now) interpretation (length (S.program source.now).rules) marks.items) (λ e. BitBeyond (S.program source.now).atoms interpretation × (number e ≡ 6)) }
 {
+    let mut marks = ArrayVec::new();
     for i in 0..source.rule_count() {
-        marks[i] = source.holds_in(i, interpretation)?;
+        marks.push(source.holds_in(i, interpretation)?);
     }
-    Ok(())
+    Ok(marks)
 }
 
 // The set with the head of rule i, where it has the premises.
@@ -42,12 +43,12 @@ fn round<S: RuleSource>(
     marks: &[bool],
     derived: LiteralSet,
 ) -> Result<LiteralSet, Refusal>
-    requires { length marks.now ≡ 4096 }
+    requires { length marks.now ≡ length (S.program source.now).rules }
     ensures { MatchResult result (λ y. Grown (S.program source.now) marks.now (length (S.program source.now).rules) derived y) (λ e. ⊥) }
 {
     let mut grown = derived;
-    for i in 0..source.rule_count() {
-        if marks[i] {
+    for (i, is_marked) in marks.iter().enumerate() {
+        if *is_marked {
             grown = fire(source, i, grown)?;
         }
     }
@@ -56,14 +57,14 @@ fn round<S: RuleSource>(
 
 // The smallest set of literals that is closed under the reduct relative to an interpretation, as two words: the atoms
 // derived true and the atoms derived false. Premises are tested against what is derived, never against the interpretation.
+// That the answer is two words, and the rounds a labelled loop, is a rule of the project (docs/DECISIONS.md, "Forms").
 pub fn closure<S: RuleSource>(source: &S, interpretation: u64) -> Result<(u64, u64), Refusal>
     ensures { AnswersClosure (S.program source.now) interpretation result }
 {
     if !is_interpretation(source.atoms(), interpretation) {
         return Err(Refusal::OutOfRange);
     }
-    let mut marks = [false; MAX_RULES];
-    mark_reduct(source, interpretation, &mut marks)?;
+    let marks = mark_reduct(source, interpretation)?;
     let mut derived = LiteralSet::EMPTY;
     'rounds: loop {
         let grown = round(source, &marks, derived)?;

@@ -1,5 +1,5 @@
 // Literals, sets of literals, and interpretations.
-ghost use Rattle.std.specs.Prelude.{◌≡◌, ◌-◌, ◌^◌, ◌<◌, ◌≤◌, ◌⊎◌, if◌then◌else◌, Decides, MatchResult};
+ghost use Rattle.std.specs.Prelude.{◌≡◌, false, ◌-◌, ◌/◌, ◌%◌, ◌^◌, ◌<◌, ◌==◌, ◌≤◌, ◌⊎◌, if◌then◌else◌, Decides, MatchResult};
 ghost use Rattle.programs.specs.Literals.{Member, Subset, with_literal, Added, complement as other_literal, Disjoint, Union, Difference, Complements, Below, AllTrue, Interpretation, BitBeyond, literals_of, LiteralsOfAreTheTrueOnes};
 ghost use Rattle.programs.specs.Refusals.{number};
 
@@ -8,15 +8,15 @@ use crate::refusal::Refusal;
 // The most atoms that a program may have: the width of a word of atoms.
 pub const MAX_ATOMS: u8 = 64;
 
-// An atom or its negation.
-#[derive(Clone, Copy, PartialEq, Eq, Debug)]
+// An atom or its negation. Its default, like a set's, only fills the free places of a vector of fixed capacity.
+#[derive(Clone, Copy, Default, PartialEq, Eq, Debug)]
 pub struct Literal {
     pub atom: u8,
     pub negative: bool,
 }
 
 // A set of literals: bit i of `positive` is atom i, bit i of `negative` its negation. It may hold both.
-#[derive(Clone, Copy, PartialEq, Eq, Debug)]
+#[derive(Clone, Copy, Default, PartialEq, Eq, Debug)]
 pub struct LiteralSet {
     pub positive: u64,
     pub negative: u64,
@@ -24,7 +24,8 @@ pub struct LiteralSet {
 
 // Whether `word` numbers an interpretation of so many atoms: it has no bit at or above them.
 pub fn is_interpretation(atoms: u8, word: u64) -> bool
-    ensures { Decides result (Interpretation atoms word) }
+    ensures decides { Decides result (Interpretation atoms word) }
+    ensures beyond { result ≡ false → BitBeyond atoms word }
 {
     atoms >= MAX_ATOMS || word >> atoms == 0
 }
@@ -42,6 +43,26 @@ fn all_atoms(atoms: u8) -> u64
 }
 
 impl Literal {
+    // The atom itself; its negation is the complement of that.
+    pub fn positive(atom: u8) -> Literal
+        ensures { result ≡ record { atom = atom; negative = false } }
+    {
+        Literal {
+            atom,
+            negative: false,
+        }
+    }
+
+    // The literals by number: each atom, and after it its negation.
+    pub fn numbered(number: u8) -> Literal
+        ensures { result ≡ record { atom = number / 2; negative = (number % 2 == 1) } }
+    {
+        Literal {
+            atom: number / 2,
+            negative: number % 2 == 1,
+        }
+    }
+
     // The other literal of the atom.
     pub fn complement(self) -> Literal
         ensures { result ≡ other_literal self }
@@ -98,17 +119,17 @@ impl LiteralSet {
             return Err(Refusal::OutOfRange);
         }
         let bit = 1u64 << literal.atom;
+        let mut more = self;
         if literal.negative {
-            return Ok(LiteralSet {
-                positive: self.positive,
-                negative: self.negative | bit,
-            });
+            more.negative |= bit;
+        } else {
+            more.positive |= bit;
         }
-        Ok(LiteralSet {
-            positive: self.positive | bit,
-            negative: self.negative,
-        })
+        Ok(more)
     }
+
+    // The questions and operations below apply one operator to each of the two words. One function that is given the
+    // operator would be no plainer, being longer than any of them.
 
     // Whether the set has every literal of the other.
     pub fn includes(self, other: LiteralSet) -> bool

@@ -12,7 +12,7 @@ pub enum Refusal {
 }
 
 impl Refusal {
-    // The number by which callers, files and other languages know the refusal.
+    // The number by which callers, files and other languages know the refusal: a call of its own, since C needs one.
     pub fn code(self) -> u8
         ensures { result ≡ number self }
     {
@@ -22,6 +22,7 @@ impl Refusal {
     }
 }
 
+// Written out and not derived, since the ghost member says the bytes.
 impl fmt::Display for Refusal {
     ghost output = { λ x. Some (words x) };
 

@@ -1,14 +1,17 @@
 // Rules whose justification is a set of literals.
-ghost use Rattle.std.specs.Prelude.{Decides};
+ghost use Rattle.std.specs.Prelude.{◌≡◌, Decides, MatchResult};
+ghost use Rattle.programs.specs.Literals.{AllTrue, Interpretation, BitBeyond};
 ghost use Rattle.programs.specs.Programs.{RuleFits, rule_of};
+ghost use Rattle.programs.specs.Refusals.{number};
 
-use crate::literal::{Literal, LiteralSet};
+use crate::literal::{Literal, LiteralSet, is_interpretation};
+use crate::refusal::Refusal;
 
 // The most rules that a program may have.
 pub const MAX_RULES: usize = 4096;
 
 // Derive the head from the premises, where every literal of the justification is true.
-#[derive(Clone, Copy)]
+#[derive(Clone, Copy, PartialEq, Eq, Debug)]
 pub struct ClausalRule {
     pub head: Literal,
     pub premises: LiteralSet,
@@ -23,5 +26,15 @@ impl ClausalRule {
         self.head.atom < atoms
             && self.premises.is_below(atoms)
             && self.justification.is_below(atoms)
+    }
+
+    // Whether the justification holds in an interpretation of so many atoms.
+    pub fn holds_in(self, atoms: u8, interpretation: u64) -> Result<bool, Refusal>
+        ensures { MatchResult result (λ b. Interpretation atoms interpretation × Decides b (AllTrue self.justification interpretation)) (λ e. BitBeyond atoms interpretation × (number e ≡ 6)) }
+    {
+        if !is_interpretation(atoms, interpretation) {
+            return Err(Refusal::OutOfRange);
+        }
+        Ok(self.justification.all_true_in(interpretation))
     }
 }

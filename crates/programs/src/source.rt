@@ -13,9 +13,6 @@ pub trait RuleSource {
     // The program that the source means.
     ghost program: { Self → Program };
 
-    // That program has 1 to 64 atoms, at most 4,096 rules, and no literal beyond the atoms.
-    ghost fits: { (s : Self) → ProgramFits (program s) };
-
     // The number of atoms.
     fn atoms(&self) -> u8
         ensures { result ≡ (program self.now).atoms };
@@ -51,6 +48,9 @@ pub trait RuleSource {
     {
         None
     }
+
+    // The law of a source: that program has 1 to 64 atoms, at most 4,096 rules, and no literal beyond the atoms.
+    ghost fits: { (s : Self) → ProgramFits (program s) };
 }
 
 // A rule source all of whose justifications are sets of literals.

@@ -1,34 +1,40 @@
 -- The node of a search: where every atom is decided, and the half in which an undecided atom is false.
-use Rattle.std.proofs.Common.{◌≡◌, ℕ, zero, suc, ◌+◌, ◌-◌, ◌^◌, ◌<◌, Bool, true, false, cond, List, [], ◌∷◌, get_or, sym, ap, ◌∙◌, subst, inl, inr, arith, pow_pos}
+use Rattle.std.proofs.Common.{◌≡◌, ℕ, ◌+◌, ◌-◌, ◌^◌, ◌<◌, Bool, true, false, cond, get_or, Result, Option, Ok, Err, IsOk, MatchResult, MatchOption, refl, sym, ap, ◌∙◌, subst, inl, inr, arith, pow_pos}
 use lib.Bits.{bit_and, bit_or}
 use lib.Count.{ones}
-use Rattle.std.specs.List.{AllByRecursion}
+use Rattle.std.proofs.lemmas.List.{get_or_past}
 use Rattle.std.proofs.lemmas.Nat.{ones-le}
-use Rattle.std.proofs.lemmas.Bool.{cases_lt}
+use Rattle.std.proofs.lemmas.Bool.{cases_lt, true≢false, false≢true}
 use Rattle.programs.specs.declared.literal.Literal.{Literal}
 use Rattle.programs.specs.declared.literal.LiteralSet.{LiteralSet}
-use Rattle.programs.specs.Literals.{bit, Member, Subset, complement, no_literals, with_literal, Added, Disjoint, Complements, Interpretation, BitBeyond, TrueIn, AllTrue}
+use Rattle.programs.specs.Literals.{bit, Member, Subset, complement, no_literals, with_literal, Added, Interpretation, BitBeyond, TrueIn, AllTrue}
+use Rattle.programs.specs.declared.refusal.Refusal.{Refusal}
 use Rattle.programs.specs.Programs.{Program, Model}
+use Rattle.programs.specs.Questions.{AnswersCheck}
+use Rattle.std.specs.Result.{result_eq, result_ok}
+use mathlib.Core.Bool.{beq}
 use Rattle.programs.proofs.Bits.{bit_cases, bit_lt, bit_none, bit-bit_or, bits_same, bits_less, complement_bit, without_bit, bit_without}
 use Rattle.programs.proofs.Closures.{more_literals}
 use Rattle.programs.proofs.Sets.{empty_subset}
-use Rattle.search.specs.Nogoods.{NoGood, Consistent, SmallestWith}
-use Rattle.search.specs.Trails.{Orderly, Respects, Refuted, Grew, Unripe, Decided}
+use Rattle.search.specs.Nogoods.{NoGood, Consistent, SmallestWith, Searched}
+use Rattle.search.specs.Trails.{Respects, Refuted, Grew, Unripe, Decided}
 use Rattle.search.specs.declared.trail.Trail.{Trail}
 use Rattle.search.proofs.Picking.{with_cases}
 use Rattle.search.proofs.Reasons.{member_cases, true_cases, one_true, subset_true}
 
 -- what has the start has all that is known
-within_any : (S : LiteralSet) (rs : List LiteralSet) (a : ℕ) → AllByRecursion (λ R. Subset R S) rs → Subset (get_or rs a no_literals) S
-within_any S [] a h = empty_subset S
-within_any S (r ∷ rs) zero h = h.0
-within_any S (r ∷ rs) (suc a) h = within_any S rs a h.1
+reason_within : (t : Trail) (i : ℕ) → Subset (get_or t.reasons i no_literals) t.start
+reason_within t i =
+    elim (cases_lt i 64) [
+      | inl l ↦ t.within i l
+      | inr g ↦ rw (get_or_past t.reasons i no_literals (omega (arith, t.sized))) (empty_subset t.start)
+    ]
 
-pub known_true : (t : Trail) (w : ℕ) → Orderly t → Respects w t → AllTrue t.start w → AllTrue t.known w
-known_true t w o resp all l m =
+pub known_true : (t : Trail) (w : ℕ) → Respects w t → AllTrue t.start w → AllTrue t.known w
+known_true t w resp all l m =
     elim (member_cases l t.start) [
       | inl h ↦ all l h
-      | inr h ↦ resp l m h (subset_true (get_or t.reasons l.atom no_literals) t.start w (within_any t.start t.reasons l.atom o.within) all)
+      | inr h ↦ resp l m h (subset_true (get_or t.reasons l.atom no_literals) t.start w (reason_within t l.atom) all)
     ]
 
 -- a consistent set is true in the word of its atoms
@@ -47,9 +53,12 @@ agree K w v i a b d =
       | inr h ↦ a (record { atom = i; negative = true }) h ∙ sym (b (record { atom = i; negative = true }) h)
     ]
 
-module _ (p : Program) (t : Trail) (o : Orderly t) (resp : (w : ℕ) → Model p w → Respects w t) where
+module _ (p : Program) (t : Trail) (resp : (w : ℕ) → Model p w → Respects w t) where
   pub model_known : (w : ℕ) → Model p w → AllTrue t.start w → AllTrue t.known w
-  model_known w m all = known_true t w o (resp w m) all
+  model_known w m all = known_true t w (resp w m) all
+
+  decided_beyond : BitBeyond p.atoms t.known.positive → NoGood p t.start
+  decided_beyond b w m all = omega (arith, model_known w m all (record { atom = b.0; negative = false }) b.2, m.interpretation b.0 b.1)
 
   -- every atom is decided
   module _ (decided : (i : ℕ) → i < p.atoms → Decided i t.known) where
@@ -57,22 +66,30 @@ module _ (p : Program) (t : Trail) (o : Orderly t) (resp : (w : ℕ) → Model p
     only_one w n m all =
         bits_same w t.known.positive
         (λ i. elim (cases_lt i p.atoms) [
-          | inl l ↦ agree t.known w t.known.positive i (model_known w m all) (own_true t.known o.consistent) (decided i l)
+          | inl l ↦ agree t.known w t.known.positive i (model_known w m all) (own_true t.known t.consistent) (decided i l)
           | inr l ↦ m.interpretation i l ∙ sym (n i l)
         ])
 
-    pub decided_model : Model p t.known.positive → SmallestWith p t.start t.known.positive
+    decided_model : Model p t.known.positive → SmallestWith p t.start t.known.positive
     decided_model m = record {
       model = m;
-      has = subset_true t.start t.known t.known.positive o.started (own_true t.known o.consistent);
+      has = subset_true t.start t.known t.known.positive t.started (own_true t.known t.consistent);
       least = λ v n all. omega (arith, only_one v m.interpretation n all);
     }
 
-    pub decided_none : Interpretation p.atoms t.known.positive → (Model p t.known.positive → ⊥) → NoGood p t.start
+    decided_none : Interpretation p.atoms t.known.positive → (Model p t.known.positive → ⊥) → NoGood p t.start
     decided_none n none w m all = none (subst (λ v. Model p v) (only_one w n m all) m)
 
-  pub decided_beyond : BitBeyond p.atoms t.known.positive → NoGood p t.start
-  decided_beyond b w m all = omega (arith, model_known w m all (record { atom = b.0; negative = false }) b.2, m.interpretation b.0 b.1)
+    -- what the test for a model says of that one interpretation
+    pub settled_model : (eq : Refusal → Refusal → Bool) (r : Result Bool Refusal) → AnswersCheck p t.known.positive r → true ≡ result_eq beq eq r (Ok true) → SmallestWith p t.start t.known.positive
+    settled_model eq (Ok true) a e = decided_model (a.1.0 refl)
+    settled_model eq (Ok false) a e = absurd (true≢false e)
+    settled_model eq (Err x) a e = absurd (true≢false e)
+
+    pub settled_none : (eq : Refusal → Refusal → Bool) (r : Result Bool Refusal) → AnswersCheck p t.known.positive r → false ≡ result_eq beq eq r (Ok true) → NoGood p t.start
+    settled_none eq (Ok true) a e = absurd (false≢true e)
+    settled_none eq (Ok false) a e = decided_none a.0 (λ m. false≢true (a.1.1 m))
+    settled_none eq (Err x) a e = decided_beyond a.0
 
   -- the half in which the highest undecided atom is false
   pub lower_half : (a w : ℕ) (H : LiteralSet) → H ≡ with_literal t.known (record { atom = a; negative = true }) → Added t.known (record { atom = a; negative = true }) H → ((i : ℕ) → a < i → i < p.atoms → Decided i t.known) → SmallestWith p H w → SmallestWith p t.start w
@@ -81,7 +98,7 @@ module _ (p : Program) (t : Trail) (o : Orderly t) (resp : (w : ℕ) → Model p
       let own = subset_true t.known H w added.kept s.has in
       record {
         model = s.model;
-        has = subset_true t.start t.known w o.started own;
+        has = subset_true t.start t.known w t.started own;
         least = λ v m all.
             let known = model_known v m all in
             elim (true_cases not_a v) [
@@ -98,6 +115,16 @@ module _ (p : Program) (t : Trail) (o : Orderly t) (resp : (w : ℕ) → Model p
 
   pub refuted_nogood : (R : LiteralSet) → Refuted (Model p) t R → NoGood p R
   refuted_nogood R r w m = r.none w m (resp w m)
+
+-- an answer that nothing can refuse
+pub always_ok : {T E : Type 0} (r : Result T E) (P : T → Type 0) (Q : E → Type 0) → ((e : E) → Q e → ⊥) → MatchResult r P Q → IsOk r
+always_ok (Ok x) P Q none h = refl
+always_ok (Err e) P Q none h = absurd (none e h)
+
+-- what an answer says once `ok()` has left out why it was refused
+pub ok_part : {T E : Type 0} (r : Result T E) (o : Option T) (P : T → Type 0) (Q : E → Type 0) → o ≡ result_ok r → MatchResult r P Q → MatchOption o ((e : E) × Q e) P
+ok_part (Ok x) o P Q same h = rw same h
+ok_part (Err e) o P Q same h = rw same (e, h)
 
 -- the atoms that are not decided
 abbrev Left : ℕ → LiteralSet → ℕ
@@ -131,17 +158,23 @@ pub must_grow : (b : Bool) (K L N : LiteralSet) → cond {A = Type 0} b (Grew K 
 must_grow true K L N h ripe = h
 must_grow false K L N h ripe = absurd (ripe h)
 
+-- the literal that the half has more, by its calls
+pub lowered : (K H : LiteralSet) (a : ℕ) (k l : Literal) → k ≡ record { atom = a; negative = false } → l ≡ complement k → (H ≡ with_literal K l) × Added K l H → (H ≡ with_literal K (record { atom = a; negative = true })) × Added K (record { atom = a; negative = true }) H
+lowered K H a k l e f made = subst (λ j. (H ≡ with_literal K j) × Added K j H) (f ∙ ap complement e) made
+
 -- a refuted lower half is ripe: it lies within what is known and one literal more
 pub half_ripe : (K H R : LiteralSet) (a : ℕ) → H ≡ with_literal K (record { atom = a; negative = true }) → (Decided a K → ⊥) → Subset R H → Unripe R K → ⊥
 half_ripe K H R a same free sub unripe =
     unripe (record { atom = a; negative = true }) (λ h. free (inl h)) (λ k m. with_cases K (record { atom = a; negative = true }) k (subst (λ X. Member k X) same (sub k m)))
 
 -- a start that contradicts itself
-pub contradiction_nogood : (p : Program) (S C : LiteralSet) → Complements S C → (Disjoint S C → ⊥) → NoGood p S
-contradiction_nogood p S C c clash w m all = clash (λ l h n. one_true l w (all l h) (all (complement l) (c.only l n)))
+pub contradiction_nogood : (p : Program) (S : LiteralSet) → (Consistent S → ⊥) → NoGood p S
+contradiction_nogood p S clash w m all = clash (λ l h n. one_true l w (all l h) (all (complement l) n))
 
-pub disjoint_consistent : (S C : LiteralSet) → Complements S C → Disjoint S C → Consistent S
-disjoint_consistent S C c d l m n = d (complement l) n (c.has l m)
-
-pub nogood_more : (p : Program) (R S : LiteralSet) → Subset R S → NoGood p R → NoGood p S
+nogood_more : (p : Program) (R S : LiteralSet) → Subset R S → NoGood p R → NoGood p S
 nogood_more p R S sub none w m all = none w m (subset_true R S w sub all)
+
+-- the answer of a search without the part of the start that no model has
+pub searched_model : (p : Program) (S : LiteralSet) (N : Type 0) (r : Result ℕ LiteralSet) → N → Searched p S r → MatchOption (result_ok r) (NoGood p S) (λ w. SmallestWith p S w × N)
+searched_model p S N (Ok w) n found = (found, n)
+searched_model p S N (Err R) n found = nogood_more p R S found.0 found.1

@@ -3,3 +3,4 @@ pub mod Reasons
 pub mod Rules
 pub mod Halves
 pub mod Parts
+pub mod Props

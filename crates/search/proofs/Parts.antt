@@ -1,8 +1,8 @@
 -- The numbers above a mark, in blocks: one for each clear bit of the mark.
-use Rattle.std.proofs.Common.{◌≡◌, ℕ, ◌+◌, ◌-◌, ◌*◌, ◌%◌, ◌^◌, ◌<◌, ◌≤◌, Bool, true, false, cond, is_some, Some, None, Option, sym, refl, ap, ◌∙◌, subst, inl, inr, arith, pow_pos, below_more, MatchOption}
+use Rattle.std.proofs.Common.{◌≡◌, ℕ, ◌+◌, ◌-◌, ◌*◌, ◌%◌, ◌^◌, ◌<◌, ◌≤◌, Bool, true, false, cond, Some, None, Option, sym, refl, ap, ◌∙◌, subst, inl, inr, arith, pow_pos, below_more}
 use lib.Bits.{bit_or}
 use Rattle.std.proofs.lemmas.Nat.{one_shl}
-use Rattle.std.proofs.lemmas.Bool.{cases_eq, cases_lt, cases_order, false≢true}
+use Rattle.std.proofs.lemmas.Bool.{cases_eq, cases_lt, cases_order}
 use Rattle.programs.specs.declared.literal.LiteralSet.{LiteralSet}
 use Rattle.programs.specs.Literals.{bit, Member, Difference, Union, Added, with_literal, no_literals, Interpretation, BitBeyond, TrueIn, AllTrue, literals_of}
 use Rattle.programs.specs.Programs.{Program, Model}
@@ -46,11 +46,12 @@ block_of M D B k h lt is d same added =
       ];
     }
 
+-- a block of what was read of the mark
+pub block_read : (n m mark : ℕ) (M : LiteralSet) (k : ℕ) (B : LiteralSet) → n ≡ m → M ≡ literals_of n mark → BlockOf M k B → BlockOf (literals_of m mark) k B
+block_read n m mark M k B same read block = subst (λ X. BlockOf X k B) (read ∙ ap (λ (a : ℕ). literals_of a mark) same) block
+
 -- a number is in a block exactly where it has the block's literals
 module _ (n mark : ℕ) (own : Interpretation n mark) where
-  side_same : (v i : ℕ) (b : Bool) → bit v i ≡ bit mark i → bit mark i ≡ cond b 0 1 → bit v i ≡ cond b 0 1
-  side_same v i b e h = e ∙ h
-
   pub block_true : (k v : ℕ) (B : LiteralSet) → BlockOf (literals_of n mark) k B → InBlock mark k v → AllTrue B v
   block_true k v B b inside l m =
       elim (b.only l m) [
@@ -125,11 +126,6 @@ module _ (p : Program) (G : LiteralSet) (mark : ℕ) where
   none_beyond beyond v c =
       let b = in_some_block p.atoms mark v c.0.interpretation c.2 in
       omega (arith, b.2.above beyond.0 (omega (arith, b.1, beyond.1)), beyond.2, c.0.interpretation beyond.0 beyond.1)
-
--- without a mark every model is above
-pub names_any : (p : Program) (G : LiteralSet) (N : Type 0) (r : Option ℕ) → MatchOption r (NoGood p G) (λ w. SmallestWith p G w × N) → NamesSmallest (ModelAboveWith p G None) r × (is_some r ≡ true → N)
-names_any p G N None h = (λ v c. h v c.0 c.1, λ e. absurd (false≢true e))
-names_any p G N (Some w) h = (((h.0.model, h.0.has, tt), λ v c. h.0.least v c.0 c.1), λ e. h.1)
 
 -- without given literals every model has them
 pub names_all : (p : Program) (mark : Option ℕ) (r : Option ℕ) → NamesSmallest (ModelAboveWith p no_literals mark) r → NamesSmallest (ModelAbove p mark) r

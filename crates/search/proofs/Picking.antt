@@ -1,16 +1,15 @@
--- The highest bit of a word, and sets with one literal.
-use Rattle.std.proofs.Common.{◌≡◌, ℕ, suc, ◌-◌, ◌^◌, ◌<◌, ◌≤◌, Bool, true, false, cond, ◌⊎◌, sym, refl, ap, ◌∙◌, subst, ap₂, inl, inr, arith, pow_pos}
+-- The highest bit of a word, sets with one literal, and sets that agree.
+use Rattle.std.proofs.Common.{◌≡◌, ℕ, suc, ◌*◌, ◌^◌, ◌<◌, ◌≤◌, Bool, true, false, cond, not, ◌⊎◌, Decides, sym, refl, ap, ◌∙◌, subst, ap₂, inl, inr, arith, pow_pos}
 use native.Mathlib.Nat.{two-pow-succ}
 use lib.Bits.{bit_or}
-use lib.Count.{count_leading_zeros}
-use Rattle.std.proofs.lemmas.Nat.{leading_top, le-div, div_below}
+use Rattle.std.proofs.lemmas.Nat.{le-div, div_below}
 use Rattle.std.proofs.lemmas.Bool.{cases_eq}
 use Rattle.programs.specs.declared.literal.Literal.{Literal}
 use Rattle.programs.specs.declared.literal.LiteralSet.{LiteralSet}
-use Rattle.programs.specs.Literals.{bit, Member, with_literal, no_literals, Added}
+use Rattle.programs.specs.Literals.{bit, Member, complement, with_literal, no_literals, Added, Disjoint, Complements}
 use Rattle.programs.proofs.Bits.{bit_none, bit_high, bit-bit_or, bit_lt, bit_cases, bit_power_other}
 use Rattle.programs.proofs.Sets.{subset_both, empty_subset}
-use Rattle.search.specs.Nogoods.{Sole}
+use Rattle.search.specs.Nogoods.{Agrees, Sole}
 
 top_bit : (x j : ℕ) → 2 ^ j ≤ x → x < 2 ^ suc j → bit x j ≡ 1
 unfolding bit
@@ -19,16 +18,11 @@ top_bit x j a b =
     let high = div_below x (2 ^ j) 2 (pow_pos j) (omega (arith, two-pow-succ j)) in
     omega arith
 
--- `63 - x.leading_zeros()` is the place of the highest bit
-pub highest_bit : (x : ℕ) → 0 < x → x < 2 ^ 64 → (63 - count_leading_zeros 64 x < 64) × (bit x (63 - count_leading_zeros 64 x) ≡ 1) × ((i : ℕ) → 63 - count_leading_zeros 64 x < i → bit x i ≡ 0)
-highest_bit x p h =
-    let top = leading_top 64 x p h in
-    let j = top.0 in
-    let same : j ≡ 63 - count_leading_zeros 64 x = omega (arith, top.1) in (
-      omega (arith, top.1),
-      subst (λ k. bit x k ≡ 1) same (top_bit x j top.2 top.3),
-      λ i l. bit_high x (suc j) i top.3 (omega (arith, top.1)),
-    )
+-- the place of the highest bit
+pub highest_bit : (x k : ℕ) → 2 ^ k ≤ x → x < 2 * 2 ^ k → (bit x k ≡ 1) × ((i : ℕ) → k < i → bit x i ≡ 0)
+highest_bit x k a b =
+    let h : x < 2 ^ suc k = omega (arith, two-pow-succ k) in
+    (top_bit x k a h, λ i l. bit_high x (suc k) i h (omega arith))
 
 -- a word that has no bit
 pub no_bit : (x i : ℕ) → x ≡ 0 → bit x i ≡ 1 → ⊥
@@ -51,6 +45,21 @@ no_literal X e l h = either_none X e l.negative l.atom h
 
 pub same_literal : (k l : Literal) → k.atom ≡ l.atom → k.negative ≡ l.negative → k ≡ l
 same_literal k l p q = ap₂ (λ (a : ℕ) (b : Bool). record { atom = a; negative = b }) p q
+
+-- the complement of the complement
+not_twice : (b : Bool) → not (not b) ≡ b
+not_twice true = refl
+not_twice false = refl
+
+pub complement_twice : (l : Literal) → complement (complement l) ≡ l
+complement_twice l = same_literal (complement (complement l)) l refl (not_twice l.negative)
+
+-- two sets agree where the one has nothing of the other's complements
+pub agrees_test : (b : Bool) (X K C : LiteralSet) → Complements K C → Decides b (Disjoint X C) → Decides b (Agrees X K)
+agrees_test b X K C c d = (
+  λ e l m n. d.0 e l m (subst (λ j. Member j C) (complement_twice l) (c.has (complement l) n)),
+  λ a. d.1 (λ l m n. a l m (c.only l n)),
+)
 
 -- what a set with one literal more has
 or_cases : (x a i : ℕ) → bit (bit_or x (2 ^ a)) i ≡ 1 → (bit x i ≡ 1) ⊎ (i ≡ a)

@@ -1,38 +1,28 @@
 -- Trails: what is known, why, and how the unit step carries them on.
-use Rattle.std.proofs.Common.{◌≡◌, ℕ, zero, suc, ◌-◌, ◌*◌, ◌%◌, ◌^◌, ◌<◌, Bool, true, false, cond, not, ◌⊎◌, List, get_or, set, replicate, Result, sym, refl, ap, ◌∙◌, subst, inl, inr, arith, length-set, get_or-set_other, get_or-set_same}
+use Rattle.std.proofs.Common.{◌≡◌, ℕ, ◌-◌, ◌*◌, ◌%◌, ◌^◌, ◌<◌, Bool, true, false, cond, not, ◌⊎◌, List, length, get_or, set, Result, IsErrAnd, sym, refl, ap, ◌∙◌, subst, inl, inr, arith, get_or-set_other, get_or-set_same}
 use lib.Bits.{bit_and, bit_or}
-use lib.ListN.{length-replicate}
-use Rattle.std.specs.List.{AllByRecursion}
+use Rattle.std.specs.List.{All}
 use Rattle.std.proofs.lemmas.Nat.{and_le_l, one_shl, pow_below}
-use Rattle.std.proofs.ByRecursion.{All-set, All-get_or, All-weaker}
-use Rattle.std.proofs.lemmas.Result.{MatchResult-weaker}
+use Rattle.std.proofs.lemmas.List.Elements.{All-weaker}
+use Rattle.std.proofs.lemmas.Result.{MatchResult-weaker, err_from_is_err_and}
 use Rattle.std.proofs.lemmas.Bool.{cases_eq, true≢false, false≢true}
 use Rattle.programs.specs.declared.literal.Literal.{Literal}
 use Rattle.programs.specs.declared.literal.LiteralSet.{LiteralSet}
-use Rattle.programs.specs.Literals.{bit, Member, Subset, complement, no_literals, with_literal, Added, Disjoint, Union, Difference, Complements, TrueIn, AllTrue}
+use Rattle.programs.specs.Literals.{bit, Member, Subset, complement, no_literals, with_literal, Union, Difference, TrueIn, AllTrue}
 use Rattle.programs.specs.Programs.{Program, Model}
 use Rattle.programs.proofs.Bits.{bit_cases, bit_lt, bit-bit_or, bit_power_same, bit_power_other, without_bit, bit_without}
-use Rattle.programs.proofs.Sets.{empty_subset}
 use Rattle.search.specs.Nogoods.{Avoids, NoGood, Sole, Consistent}
-use Rattle.search.specs.Rows.{Learns}
-use Rattle.search.specs.Trails.{Orderly, Behind, Extended, Advanced, Refuted, Narrowed, Unripe, UnitStep}
+use Rattle.search.specs.Trails.{Respects, Behind, Extended, Advanced, Refuted, Narrowed, Unripe, UnitStep}
 use Rattle.search.specs.declared.trail.Trail.{Trail}
-use Rattle.search.proofs.Picking.{same_literal, with_cases, no_bit}
+use Rattle.search.proofs.Picking.{same_literal, complement_twice, with_cases, no_bit}
 
 -- whether a literal is in a set, and which of two literals is true
 pub member_cases : (l : Literal) (X : LiteralSet) → Member l X ⊎ (Member l X → ⊥)
 member_cases l X = elim (bit_cases (cond l.negative X.negative X.positive) l.atom) [ inl e ↦ inr (λ h. omega arith) | inr e ↦ inl e ]
 
-not_twice : (b : Bool) → not (not b) ≡ b
-not_twice true = refl
-not_twice false = refl
-
 not_same : (b : Bool) → not b ≡ b → ⊥
 not_same true e = false≢true e
 not_same false e = true≢false e
-
-pub complement_twice : (l : Literal) → complement (complement l) ≡ l
-complement_twice l = same_literal (complement (complement l)) l refl (not_twice l.negative)
 
 bool_cases : (b d : Bool) → (b ≡ d) ⊎ (b ≡ not d)
 bool_cases true true = inl refl
@@ -66,38 +56,12 @@ union_true X Y Z w u x y l m = elim (u.only l m) [ inl h ↦ x l h | inr h ↦ y
 pub union_within : (X Y Z W : LiteralSet) → Union X Y Z → Subset X W → Subset Y W → Subset Z W
 union_within X Y Z W u x y l m = elim (u.only l m) [ inl h ↦ x l h | inr h ↦ y l h ]
 
--- the trail that starts
-all_replicate : {X : Type 0} (P : X → Type 0) (n : ℕ) (x : X) → P x → AllByRecursion P (replicate n x)
-all_replicate P zero x h = tt
-all_replicate P (suc n) x h = (h, all_replicate P n x h)
-
-pub starting : (S : LiteralSet) → S.positive < 2 ^ 64 → S.negative < 2 ^ 64 → Consistent S → Orderly (record { start = S; known = S; reasons = replicate 64 no_literals })
-starting S sp sn c = record {
-  sized = length-replicate 64 no_literals;
-  wide = (sp, sn);
-  started = λ l m. m;
-  consistent = c;
-  within = all_replicate (λ R. Subset R S) 64 no_literals (empty_subset S);
-}
-
--- nothing learned: no interpretation has an atom and its negation
-pub nothing_learned : (p : Program) (total nodes : ℕ) → Learns p (record { sets = replicate 256 (record { positive = 1; negative = 1 }); total = total; nodes = nodes })
-nothing_learned p total nodes = record {
-  sized = length-replicate {A = LiteralSet} 256 (record { positive = 1; negative = 1 });
-  each = all_replicate (NoGood p) 256 (record { positive = 1; negative = 1 }) (λ w m all.
-      let zeroth = bit_power_same 0 in
-      one_true (record { atom = 0; negative = false }) w (all (record { atom = 0; negative = false }) zeroth) (all (record { atom = 0; negative = true }) zeroth));
-}
-
 -- what lies behind: each atom is still to come, or its reason is gathered
 abbrev pub Gathers : ℕ → List LiteralSet → ℕ → LiteralSet → Type 0
 Gathers all reasons rest R = (i : ℕ) → bit all i ≡ 1 → (bit rest i ≡ 1) ⊎ Subset (get_or reasons i no_literals) R
 
 pub start_part : (S K F R : LiteralSet) → Difference S K F → Difference S F R → Subset R K
 start_part S K F R f r l m = elim (member_cases l K) [ inl h ↦ h | inr h ↦ absurd (r.apart l m (f.has l (r.from l m) h)) ]
-
-pub reason_within : (t : Trail) → Orderly t → (a : ℕ) → a < 64 → Subset (get_or t.reasons a no_literals) t.start
-reason_within t o a h = All-get_or (λ R. Subset R t.start) t.reasons a no_literals (omega (arith, o.sized)) o.within
 
 -- `rest & !(1 << a)`
 clear_shift : (rest a : ℕ) → a < 64 → bit_and rest (2 ^ 64 - 1 - (1 * 2 ^ a) % 2 ^ 64) ≡ bit_and rest (2 ^ 64 - 1 - 2 ^ a)
@@ -149,33 +113,31 @@ consistent_with K L l consistent free same k m n =
       ]
     ]
 
-pub extended : (t : Trail) (l : Literal) (R K : LiteralSet) → K.positive < 2 ^ 64 → K.negative < 2 ^ 64 → Orderly t → l.atom < 64 → (Member l t.known → ⊥) → (Member (complement l) t.known → ⊥) → Subset R t.start → K ≡ with_literal t.known l → Added t.known l K → Extended t l R (record { start = t.start; known = K; reasons = set t.reasons l.atom R })
-extended t l R K kp kn o lt new free within same added = record {
-  orderly = record {
-    sized = length-set t.reasons l.atom R ∙ o.sized;
-    wide = (kp, kn);
-    started = λ k m. added.kept k (o.started k m);
-    consistent = consistent_with t.known K l o.consistent free same;
-    within = All-set (λ Q. Subset Q t.start) t.reasons l.atom R within o.within;
-  };
-  same = refl;
-  grown = added;
-  respected = λ w resp gives k m n all. elim (with_cases t.known l k (subst (λ X. Member k X) same m)) [
-    | inr d ↦ subst (λ j. TrueIn j w) (sym d) (gives (subst (λ Q. AllTrue Q w) (ap (λ j. get_or (set t.reasons l.atom R) j.atom no_literals) d ∙ get_or-set_same t.reasons l.atom R no_literals (omega (arith, o.sized))) all))
-    | inl p ↦
-        let apart : k.atom ≡ l.atom → ⊥ = λ e. elim (same_atom k l e) [ inl s ↦ new (subst (λ j. Member j t.known) s p) | inr s ↦ free (subst (λ j. Member j t.known) s p) ] in
-        resp k p n (subst (λ Q. AllTrue Q w) (get_or-set_other t.reasons l.atom k.atom R no_literals apart) all)
-  ];
-}
+-- what respects a trail respects it with one literal more, if it has that where it has the reason
+pub respects_more : (t : Trail) (l : Literal) (R K : LiteralSet) → l.atom < 64 → (Member l t.known → ⊥) → (Member (complement l) t.known → ⊥) → K ≡ with_literal t.known l → (w : ℕ) → Respects w t → (AllTrue R w → TrueIn l w) → (k : Literal) → Member k K → (Member k t.start → ⊥) → AllTrue (get_or (set t.reasons l.atom R) k.atom no_literals) w → TrueIn k w
+respects_more t l R K lt new free same w resp gives k m n all =
+    elim (with_cases t.known l k (subst (λ X. Member k X) same m)) [
+      | inr d ↦ subst (λ j. TrueIn j w) (sym d) (gives (subst (λ Q. AllTrue Q w) (ap (λ j. get_or (set t.reasons l.atom R) j.atom no_literals) d ∙ get_or-set_same t.reasons l.atom R no_literals (omega (arith, t.sized))) all))
+      | inl p ↦
+          let apart : k.atom ≡ l.atom → ⊥ = λ e. elim (same_atom k l e) [ inl s ↦ new (subst (λ j. Member j t.known) s p) | inr s ↦ free (subst (λ j. Member j t.known) s p) ] in
+          resp k p n (subst (λ Q. AllTrue Q w) (get_or-set_other t.reasons l.atom k.atom R no_literals apart) all)
+    ]
+
+-- each reason lies within the start, also with one written over
+pub within_set : (S R : LiteralSet) (rs : List LiteralSet) (a : ℕ) → length rs ≡ 64 → ((i : ℕ) → i < 64 → Subset (get_or rs i no_literals) S) → Subset R S → a < 64 → (i : ℕ) → i < 64 → Subset (get_or (set rs a R) i no_literals) S
+within_set S R rs a sized each within lt i h =
+    elim (cases_eq i a) [
+      | inl e ↦ rw (e, get_or-set_same rs a R no_literals (omega arith)) within
+      | inr d ↦ rw (get_or-set_other rs a i R no_literals d) (each i h)
+    ]
 
 -- steps put together
 module _ (H : ℕ → Type 0) where
-  pub advanced_none : (t : Trail) → Orderly t → Advanced H t t
-  advanced_none t o = record { orderly = o; same = refl; kept = λ l m. m; respected = λ w h r. r }
+  pub advanced_none : (t : Trail) → Advanced H t t
+  advanced_none t = record { same = refl; kept = λ l m. m; respected = λ w h r. r }
 
   pub advanced_then : (t u v : Trail) → Advanced H t u → Advanced H u v → Advanced H t v
   advanced_then t u v a b = record {
-    orderly = b.orderly;
     same = b.same ∙ a.same;
     kept = λ l m. b.kept l (a.kept l m);
     respected = λ w h r. b.respected w h (a.respected w h r);
@@ -187,8 +149,12 @@ module _ (H : ℕ → Type 0) where
     none = λ w h r. b.none w h (a.respected w h r);
   }
 
+  -- where a step refutes, what it refuted is handed on
+  pub refuted_out : {A : Type 0} (t u v : Trail) (r : Result A LiteralSet) (R : LiteralSet) → IsErrAnd r (λ e. e ≡ R) → Advanced H t u → Refuted H u R → Narrowed H t r v
+  refuted_out t u v r R e a b = let out = err_from_is_err_and r e in rw (out.1, out.2) (refuted_then t u R a b)
+
   pub advanced_for : (G : ℕ → Type 0) → ((w : ℕ) → H w → G w) → (t u : Trail) → Advanced G t u → Advanced H t u
-  advanced_for G f t u a = record { orderly = a.orderly; same = a.same; kept = a.kept; respected = λ w h. a.respected w (f w h) }
+  advanced_for G f t u a = record { same = a.same; kept = a.kept; respected = λ w h. a.respected w (f w h) }
 
   pub refuted_for : (G : ℕ → Type 0) → ((w : ℕ) → H w → G w) → (t : Trail) (R : LiteralSet) → Refuted G t R → Refuted H t R
   refuted_for G f t R a = record { within = a.within; none = λ w h. a.none w (f w h) }
@@ -197,29 +163,20 @@ module _ (H : ℕ → Type 0) where
   narrowed_for N t u r f step =
       MatchResult-weaker r step (λ _ a. advanced_for (Avoids N) f t u a.0) (λ R b. refuted_for (Avoids N) f t R b)
 
+  pub narrowed_then : {A : Type 0} (t u v : Trail) (r : Result A LiteralSet) → Advanced H t u → Narrowed H u r v → Narrowed H t r v
+  narrowed_then t u v r a step =
+      MatchResult-weaker r step (λ _ b. advanced_then t u v a b) (λ R b. refuted_then t u R a b)
+
 -- what was learned is avoided by every model
-pub learned_avoids : (p : Program) (sets : List LiteralSet) → AllByRecursion (NoGood p) sets → (w : ℕ) → Model p w → AllByRecursion (λ N. Avoids N w) sets
+pub learned_avoids : (p : Program) (sets : List LiteralSet) → All (NoGood p) sets → (w : ℕ) → Model p w → All (λ N. Avoids N w) sets
 learned_avoids p sets each w m = All-weaker (NoGood p) (λ N. Avoids N w) (λ N n. n w m) sets each
 
 -- the unit step
-pub unripe_clash : (t : Trail) (N C : LiteralSet) → Orderly t → Complements t.known C → (Disjoint N C → ⊥) → Unripe N t.known
-unripe_clash t N C o c clash l free all =
-    clash (λ k m n. elim (all k m) [ inl p ↦ o.consistent k p (c.only k n) | inr e ↦ free (subst (λ j. Member (complement j) t.known) e (c.only k n)) ])
-
 pub unripe_several : (N K L : LiteralSet) → Difference N K L → ((l : Literal) → ((k : Literal) → Member k L → k ≡ l) → ⊥) → Unripe N K
 unripe_several N K L d several l free all =
     several l (λ k m. elim (all k (d.from k m)) [ inl p ↦ absurd (d.apart k m p) | inr e ↦ e ])
 
-pub all_known : (N K L : LiteralSet) → Difference N K L → ((l : Literal) → Member l L → ⊥) → Subset N K
-all_known N K L d none l m = elim (member_cases l K) [ inl h ↦ h | inr h ↦ absurd (none l (d.has l m h)) ]
-
-pub refuted_known : (t : Trail) (N R : LiteralSet) → Behind t N R → Refuted (Avoids N) t R
-refuted_known t N R b = record { within = b.within; none = λ w avoid resp all. avoid (b.gives w resp all) }
-
 -- a set but for one literal
-pub rest_known : (N K L M : LiteralSet) → Difference N K L → Difference N L M → Subset M K
-rest_known N K L M d e k m = elim (member_cases k K) [ inl h ↦ h | inr h ↦ absurd (e.apart k m (d.has k (e.from k m) h)) ]
-
 pub forced : (N K L M : LiteralSet) (l : Literal) (w : ℕ) → Difference N K L → Difference N L M → Sole l L → Avoids N w → AllTrue M w → TrueIn (complement l) w
 forced N K L M l w d e sole avoid rest =
     elim (true_cases l w) [
@@ -229,14 +186,7 @@ forced N K L M l w d e sole avoid rest =
 
 pub advanced_forced : (t u : Trail) (N L M R : LiteralSet) (l : Literal) → Difference N t.known L → Difference N L M → Sole l L → Behind t M R → Extended t (complement l) R u → Advanced (Avoids N) t u
 advanced_forced t u N L M R l d e sole b x = record {
-  orderly = x.orderly;
   same = x.same;
   kept = x.grown.kept;
   respected = λ w avoid resp. x.respected w resp (λ all. forced N t.known L M l w d e sole avoid (b.gives w resp all));
 }
-
-pub free_of : (N K C L : LiteralSet) (l : Literal) → Difference N K L → Complements K C → Disjoint N C → Member l L → Member (complement l) K → ⊥
-free_of N K C L l d c apart m h = apart l (d.from l m) (subst (λ j. Member j C) (complement_twice l) (c.has (complement l) h))
-
-pub new_of : (N K L : LiteralSet) (l : Literal) → Difference N K L → Member l L → Member (complement (complement l)) K → ⊥
-new_of N K L l d m h = d.apart l m (subst (λ j. Member j K) (complement_twice l) h)

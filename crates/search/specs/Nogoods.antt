@@ -17,9 +17,13 @@ NoGood p N = (w : ℕ) → Model p w → Avoids N w
 abbrev pub Sole : Literal → LiteralSet → Type 0
 Sole l X = Member l X × ((k : Literal) → Member k X → k ≡ l)
 
+-- no literal of X has its complement in K
+abbrev pub Agrees : LiteralSet → LiteralSet → Type 0
+Agrees X K = (l : Literal) → Member l X → Member (complement l) K → ⊥
+
 -- X has no literal together with its complement
 abbrev pub Consistent : LiteralSet → Type 0
-Consistent X = (l : Literal) → Member l X → Member (complement l) X → ⊥
+Consistent X = Agrees X X
 
 -- w is the smallest model of p that has each literal of G
 pub record SmallestWith (p : Program) (G : LiteralSet) (w : ℕ) : Type 0 where

@@ -1,10 +1,9 @@
 -- What is known at a node of the search, and why.
-use Rattle.std.specs.Prelude.{◌≡◌, ℕ, ◌^◌, ◌<◌, Bool, true, false, cond, ◌⊎◌, length, Result, MatchResult, slice_index_or}
-use Rattle.std.specs.List.{AllByRecursion}
+use Rattle.std.specs.Prelude.{◌≡◌, ℕ, ◌<◌, Bool, true, false, cond, ◌⊎◌, Result, MatchResult, slice_index_or}
 use Rattle.programs.specs.declared.literal.Literal.{Literal}
 use Rattle.programs.specs.declared.literal.LiteralSet.{LiteralSet}
 use Rattle.programs.specs.Literals.{Member, Subset, complement, no_literals, Added, TrueIn, AllTrue}
-use Rattle.search.specs.Nogoods.{Avoids, Sole, Consistent}
+use Rattle.search.specs.Nogoods.{Avoids, Sole}
 use Rattle.search.specs.declared.picks.Count.{Count}
 use Rattle.search.specs.declared.picks.Count.TheVariants.{Nothing, One, Several}
 use Rattle.search.specs.declared.trail.Trail.{Trail}
@@ -14,14 +13,6 @@ abbrev pub Counted : LiteralSet → Count → Type 0
 Counted X Nothing = (l : Literal) → Member l X → ⊥
 Counted X (One l) = (l.atom < 64) × Sole l X
 Counted X Several = (l : Literal) → ((k : Literal) → Member k X → k ≡ l) → ⊥
-
--- a trail is orderly: what is known is consistent and has the start, and each reason is a part of the start
-pub record Orderly (t : Trail) : Type 0 where
-  pub sized : length t.reasons ≡ 64
-  pub wide : (t.known.positive < 2 ^ 64) × (t.known.negative < 2 ^ 64)
-  pub started : Subset t.start t.known
-  pub consistent : Consistent t.known
-  pub within : AllByRecursion (λ R. Subset R t.start) t.reasons
 
 -- w respects the trail: it has each known literal whose reason it has; a literal of the start is its own reason
 abbrev pub Respects : ℕ → Trail → Type 0
@@ -34,14 +25,12 @@ pub record Behind (t : Trail) (S R : LiteralSet) : Type 0 where
 
 -- one more known literal, with its reason
 pub record Extended (t : Trail) (l : Literal) (R : LiteralSet) (t' : Trail) : Type 0 where
-  pub orderly : Orderly t'
   pub same : t'.start ≡ t.start
   pub grown : Added t.known l t'.known
   pub respected : (w : ℕ) → Respects w t → (AllTrue R w → TrueIn l w) → Respects w t'
 
 -- the trail has come further: what was known is known, and each w of the kind H that respected it does so still
 pub record Advanced (H : ℕ → Type 0) (t t' : Trail) : Type 0 where
-  pub orderly : Orderly t'
   pub same : t'.start ≡ t.start
   pub kept : Subset t.known t'.known
   pub respected : (w : ℕ) → H w → Respects w t → Respects w t'

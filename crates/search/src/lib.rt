@@ -4,6 +4,7 @@
 mod learned;
 mod narrow;
 mod picks;
+mod problem;
 mod rows;
 pub mod smallest;
 mod trail;

@@ -1,16 +1,15 @@
 // What follows from what is known, without a choice.
-ghost use Rattle.std.specs.Prelude.{◌≡◌, ℕ, ◌<◌, ◌≤◌, length};
-ghost use Rattle.std.specs.List.{HoldsAt, AllByRecursion};
+ghost use Rattle.std.specs.List.{All};
 ghost use Rattle.programs.specs.Programs.{Model};
 ghost use Rattle.search.specs.Nogoods.{Avoids};
-ghost use Rattle.search.specs.Rows.{RowHolds, Prepared, Learns};
-ghost use Rattle.search.specs.Trails.{Orderly, Narrowed};
+ghost use Rattle.search.specs.Rows.{RowHolds, Learns};
+ghost use Rattle.search.specs.Trails.{Narrowed};
 
 use crate::learned::Learned;
-use crate::picks::{Count, count_literals};
-use crate::rows::{KnownRule, is_settled, settling};
+use crate::picks::{Count, agrees, count_literals};
+use crate::problem::Problem;
+use crate::rows::KnownRule;
 use crate::trail::Trail;
-use crate::unfounded::exclude_unfounded;
 use programs::literal::LiteralSet;
 use programs::source::RuleSource;
 
@@ -20,90 +19,75 @@ const ROUNDS: usize = 65;
 // Whether a set could lead to something, were the justification of its rule settled: all of it is known but for one
 // literal at most.
 fn is_ripe(known: LiteralSet, set: LiteralSet) -> bool {
-    if !set.is_disjoint(known.complements()) {
-        return false;
-    }
-    match count_literals(set.difference(known)) {
-        Count::Several => false,
-        _ => true,
-    }
+    agrees(set, known) && !matches!(count_literals(set.difference(known)), Count::Several)
 }
 
-// The unit step for the row of rule i, with what settles its justification where that is not known as a set.
-fn step<S: RuleSource>(
-    source: &S,
-    i: usize,
-    rule: KnownRule,
-    row: LiteralSet,
-    trail: &mut Trail,
-) -> Result<bool, LiteralSet>
-    requires { RowHolds (S.program source.now) i rule row × Orderly trail.old }
-    ensures { Narrowed (Model (S.program source.now)) trail.old result trail.new }
-{
-    if rule.justification.is_some() {
-        return trail.apply(row);
-    }
-    let known = trail.known;
-    if is_ripe(known, row) && is_settled(source, i, known, true) {
-        return trail.apply(row.union(settling(source, i, known, true)));
-    }
-    Ok(false)
-}
-
-// The row of each rule once. The answer is whether that made something known.
-fn sweep_rows<S: RuleSource>(
-    source: &S,
-    rules: &[KnownRule],
-    rows: &[LiteralSet],
-    trail: &mut Trail,
-) -> Result<bool, LiteralSet>
-    requires { Prepared (S.program source.now) rules.now rows.now × Orderly trail.old }
-    ensures { Narrowed (Model (S.program source.now)) trail.old result trail.new }
-{
-    let mut grew = false;
-    for i in 0..rules.len() {
-        if step(source, i, rules[i], rows[i], trail)? {
-            grew = true;
-        }
-    }
-    Ok(grew)
-}
-
-// Each learned set once. The answer is whether that made something known.
+// Each learned set once. The answer is whether that made something known. The loop stands here, in `sweep_rows` and in
+// `exclude_unfounded`: one function that is given the step would be no plainer, since its contract has to say of each
+// call what it makes of the trail.
 fn sweep_learned(learned: &Learned, trail: &mut Trail) -> Result<bool, LiteralSet>
-    requires { length learned.now.sets ≡ 256 × Orderly trail.old }
-    ensures { Narrowed (λ w. AllByRecursion (λ N. Avoids N w) learned.now.sets) trail.old result trail.new }
+    ensures { Narrowed (λ w. All (λ N. Avoids N w) learned.now.sets.items) trail.old result trail.new }
 {
     let mut grew = false;
-    for i in 0..learned.taken() {
-        if trail.apply(learned.sets[i])? {
-            grew = true;
-        }
+    for set in learned.sets.iter() {
+        grew |= trail.apply(*set)?;
     }
     Ok(grew)
 }
 
-// Takes these steps until none leads further: the rows, then the learned sets, then the literals that no model can derive.
-pub fn narrow<S: RuleSource>(
-    source: &S,
-    rules: &[KnownRule],
-    rows: &[LiteralSet],
-    learned: &Learned,
-    trail: &mut Trail,
-) -> Result<(), LiteralSet>
-    requires { Prepared (S.program source.now) rules.now rows.now × Learns (S.program source.now) learned.now × Orderly trail.old }
-    ensures { Narrowed (Model (S.program source.now)) trail.old result trail.new }
-{
-    for _ in 0..ROUNDS {
-        if sweep_rows(source, rules, rows, trail)? {
-            continue;
+impl<'a, S: RuleSource> Problem<'a, S> {
+    // The unit step for the row of a rule, with what settles its justification where that is not known as a set.
+    fn step(&self, rule: &KnownRule, trail: &mut Trail) -> Result<bool, LiteralSet>
+        requires { RowHolds (S.program self.now.source.now) rule.now }
+        ensures { Narrowed (Model (S.program self.now.source.now)) trail.old result trail.new }
+    {
+        if rule.justification.is_some() {
+            return trail.apply(rule.row);
+        }
+        if is_ripe(trail.known, rule.row) {
+            if let Some(settling) = self.settling(rule, trail.known, true) {
+                return trail.apply(rule.row.union(settling));
+            }
+        }
+        Ok(false)
+    }
+
+    // The row of each rule once. The answer is whether that made something known.
+    fn sweep_rows(&self, trail: &mut Trail) -> Result<bool, LiteralSet>
+        ensures { Narrowed (Model (S.program self.now.source.now)) trail.old result trail.new }
+    {
+        let mut grew = false;
+        for rule in self.rules.iter() {
+            grew |= self.step(rule, trail)?;
+        }
+        Ok(grew)
+    }
+
+    // The rows, then the learned sets, then the literals that no model can derive: as far as the first that makes
+    // something known. The answer is whether one did.
+    fn round(&self, learned: &Learned, trail: &mut Trail) -> Result<bool, LiteralSet>
+        requires { Learns (S.program self.now.source.now) learned.now }
+        ensures { Narrowed (Model (S.program self.now.source.now)) trail.old result trail.new }
+    {
+        if self.sweep_rows(trail)? {
+            return Ok(true);
         }
         if sweep_learned(learned, trail)? {
-            continue;
+            return Ok(true);
         }
-        if !exclude_unfounded(source, rules, trail)? {
-            return Ok(());
-        }
+        self.exclude_unfounded(trail)
     }
-    Ok(())
+
+    // Takes these rounds until none leads further.
+    pub fn narrow(&self, learned: &Learned, trail: &mut Trail) -> Result<(), LiteralSet>
+        requires { Learns (S.program self.now.source.now) learned.now }
+        ensures { Narrowed (Model (S.program self.now.source.now)) trail.old result trail.new }
+    {
+        for _ in 0..ROUNDS {
+            if !self.round(learned, trail)? {
+                break;
+            }
+        }
+        Ok(())
+    }
 }

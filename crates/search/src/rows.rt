@@ -1,142 +1,95 @@
 // The rules of a source, asked once, and for each of them a set of literals that no model has.
-ghost use Rattle.std.specs.Prelude.{◌≡◌, ℕ, ◌<◌, ◌≤◌, Bool, true, length, MatchResult, slice_index_or};
-ghost use Rattle.std.specs.List.{HoldsAt};
-ghost use Rattle.programs.specs.Literals.{Subset, no_literals};
-ghost use Rattle.programs.specs.Programs.{rule_at};
-ghost use Rattle.programs.specs.Questions.{Settles};
-ghost use Rattle.search.specs.Rows.{Keeps, KeepsAll, Body, Opposes, RowOf};
+ghost use Rattle.std.specs.Prelude.{◌≡◌, ◌≤◌, true, length, Decides, MatchResult};
+ghost use Rattle.search.specs.Rows.{Body, Opposes, RowOf, Kept, KeepsAll, Prepared, Supports};
 
 use crate::picks::plus;
-use programs::literal::{LiteralSet, MAX_ATOMS};
+use arrayvec::ArrayVec;
+use programs::literal::LiteralSet;
 use programs::refusal::Refusal;
+use programs::rule::MAX_RULES;
 use programs::source::RuleSource;
 
-// How far a rule looks for one that opposes it. Where a formula makes a constraint, as two rules for an atom and its
-// negation, and each is written as up to 64 rules, the two that belong together are this far apart.
+// How far back a rule looks for one that opposes it. Where a formula makes a constraint, as two rules for an atom and
+// its negation, and each is written as up to 64 rules, the two that belong together are this far apart.
 const WINDOW: usize = 64;
 
-// A rule: its head alone in a set, its premises, and a set that its justification amounts to, where the source has one.
-#[derive(Clone, Copy)]
+// A rule: its number, its head alone in a set, its premises, a set that its justification amounts to, where the source
+// has one, and its row: a set that no model has, or none in which the justification holds, where that is not known.
+#[derive(Clone, Copy, Default)]
 pub struct KnownRule {
+    pub number: usize,
     pub head: LiteralSet,
     pub premises: LiteralSet,
     pub justification: Option<LiteralSet>,
+    pub row: LiteralSet,
 }
 
 impl KnownRule {
-    // A place for a rule that has not been asked yet.
-    pub const UNKNOWN: KnownRule = KnownRule {
-        head: LiteralSet::EMPTY,
-        premises: LiteralSet::EMPTY,
-        justification: None,
-    };
-
     // The premises, and the literals of the justification where they are known.
-    pub fn body(self) -> LiteralSet
-        ensures { Body self result }
+    pub fn body(&self) -> LiteralSet
+        ensures { Body self.now result }
     {
-        match self.justification {
-            Some(set) => self.premises.union(set),
-            None => self.premises,
-        }
+        self.justification
+            .map_or(self.premises, |set| self.premises.union(set))
     }
 
-    // Whether another rule has the complement of this head as its own, and this known body.
-    fn is_opposed(self, body: LiteralSet, other: KnownRule) -> bool
-        ensures { result ≡ true → Opposes self body other }
+    // Whether the rule derives a literal of the set from none of it.
+    pub fn supports(&self, set: LiteralSet) -> bool
+        ensures { Decides result (Supports self.now set) }
     {
-        other.justification.is_some()
-            && other.head == self.head.complements()
-            && other.body() == body
+        set.includes(self.head) && set.is_disjoint(self.premises)
+    }
+
+    // Whether the rule has the complement of a head as its own, and this known body.
+    fn opposes(&self, head: LiteralSet, body: LiteralSet) -> bool
+        ensures { result ≡ true → Opposes head body self.now }
+    {
+        self.justification.is_some() && self.head == head.complements() && self.body() == body
+    }
+
+    // The row of a rule that follows others: what no model has, since it would have to have the head, or two heads that
+    // contradict each other.
+    fn row_after(&self, earlier: &[KnownRule]) -> LiteralSet
+        ensures { RowOf earlier.now self.now result }
+    {
+        let body = self.body();
+        let mut near = earlier.iter().rev().take(WINDOW);
+        if self.justification.is_some() && near.any(|other| other.opposes(self.head, body)) {
+            return body;
+        }
+        body.union(self.head.complements())
     }
 }
 
-// Rule i, as the search keeps it.
-fn known_rule<S: RuleSource>(source: &S, i: usize) -> Result<KnownRule, Refusal>
-    ensures { MatchResult result (Keeps (S.program source.now) i) (λ e. length (S.program source.now).rules ≤ i) }
+// The rule that follows those that were asked, if there is one. Its row is found from the rest of it.
+fn next_rule<S: RuleSource>(source: &S, earlier: &[KnownRule]) -> Result<KnownRule, Refusal>
+    requires { KeepsAll (S.program source.now) earlier.now }
+    ensures { MatchResult result (Kept (S.program source.now) (length earlier.now)) (λ e. length (S.program source.now).rules ≤ length earlier.now) }
 {
-    let head = source.head(i)?;
-    let premises = source.premises(i)?;
-    Ok(KnownRule {
+    let number = earlier.len();
+    let head = source.head(number)?;
+    let premises = source.premises(number)?;
+    let rule = KnownRule {
+        number,
         head: plus(LiteralSet::EMPTY, head),
         premises,
-        justification: source.as_literals(i),
+        justification: source.as_literals(number),
+        row: LiteralSet::EMPTY,
+    };
+    Ok(KnownRule {
+        row: rule.row_after(earlier),
+        ..rule
     })
 }
 
-// Asks for each rule of the source.
-pub fn ask_rules<S: RuleSource>(source: &S, rules: &mut [KnownRule]) -> Result<(), Refusal>
-    requires { length rules.old ≡ length (S.program source.now).rules }
-    ensures { MatchResult result (λ _. KeepsAll (S.program source.now) (length (S.program source.now).rules) rules.new) (λ e. ⊥) }
+// The rules of a source. Each is asked for once, in order, since its row depends on the rules before it.
+pub fn ask_rules<S: RuleSource>(source: &S) -> ArrayVec<KnownRule, MAX_RULES>
+    ensures { Prepared (S.program source.now) result.items }
 {
-    for i in 0..rules.len() {
-        rules[i] = known_rule(source, i)?;
+    let mut rules = ArrayVec::new();
+    for _ in 0..source.rule_count() {
+        let rule = next_rule(source, &rules).unwrap();
+        rules.push(rule);
     }
-    Ok(())
-}
-
-// Whether one of the rules that follow rule i opposes it.
-fn has_opponent(rules: &[KnownRule], i: usize, body: LiteralSet) -> bool
-    requires { i < length rules.now }
-    ensures { result ≡ true → (j : ℕ) × (j < length rules.now) × HoldsAt (λ k. HoldsAt (Opposes k body) rules.now j) rules.now i }
-{
-    let rule = rules[i];
-    for j in i..rules.len().min(i + WINDOW + 1) {
-        if rule.is_opposed(body, rules[j]) {
-            return true;
-        }
-    }
-    false
-}
-
-// The row of rule i: what no model has, since it would have to have the head, or two heads that contradict each other.
-fn row(rules: &[KnownRule], i: usize) -> LiteralSet
-    requires { i < length rules.now }
-    ensures { HoldsAt (λ k. RowOf rules.now k result) rules.now i }
-{
-    let rule = rules[i];
-    let body = rule.body();
-    if rule.justification.is_some() && has_opponent(rules, i, body) {
-        return body;
-    }
-    body.union(rule.head.complements())
-}
-
-// The row of each rule.
-pub fn make_rows(rules: &[KnownRule], rows: &mut [LiteralSet])
-    requires { length rows.old ≡ length rules.now }
-    ensures { (i : ℕ) → i < length rules.now → HoldsAt (λ k. RowOf rules.now k (slice_index_or rows.new i no_literals)) rules.now i }
-{
-    for i in 0..rules.len() {
-        rows[i] = row(rules, i);
-    }
-}
-
-// Whether the source says that the known literals settle the justification of rule i, in one way.
-pub fn is_settled<S: RuleSource>(source: &S, i: usize, known: LiteralSet, holds: bool) -> bool
-    ensures { result ≡ true → Settles (S.program source.now).atoms (rule_at (S.program source.now) i).justification known holds }
-{
-    match source.settled(i, known) {
-        Some(answer) => answer == holds,
-        None => false,
-    }
-}
-
-// A part of the known literals that still settles the justification of rule i: what can be left out, is.
-pub fn settling<S: RuleSource>(source: &S, i: usize, known: LiteralSet, holds: bool) -> LiteralSet
-    requires { Settles (S.program source.now).atoms (rule_at (S.program source.now) i).justification known holds }
-    ensures { Subset result known × Settles (S.program source.now).atoms (rule_at (S.program source.now) i).justification result holds }
-{
-    let mut needed = known;
-    for atom in 0..MAX_ATOMS {
-        let both = LiteralSet {
-            positive: 1 << atom,
-            negative: 1 << atom,
-        };
-        let fewer = needed.difference(both);
-        if fewer != needed && is_settled(source, i, fewer, holds) {
-            needed = fewer;
-        }
-    }
-    needed
+    rules
 }

@@ -4,23 +4,21 @@ ghost use Rattle.programs.specs.Literals.{bit, Below};
 ghost use Rattle.programs.specs.Programs.{Model};
 ghost use Rattle.programs.specs.Refusals.{number};
 ghost use Rattle.search.specs.Nogoods.{NoGood, Consistent, SmallestWith, Searched};
-ghost use Rattle.search.specs.Rows.{Prepared, Learns};
+ghost use Rattle.search.specs.Rows.{Learns};
 ghost use Rattle.search.specs.Searches.{ModelAbove, ModelAboveWith, NamesSmallest, BlockOf};
-ghost use Rattle.search.specs.Trails.{Orderly, Respects, Decided};
+ghost use Rattle.search.specs.Trails.{Respects, Decided};
 
 use crate::learned::Learned;
-use crate::narrow::narrow;
-use crate::picks::{highest, plus};
-use crate::rows::{KnownRule, ask_rules, make_rows};
+use crate::picks::{agrees, highest, plus};
+use crate::problem::Problem;
 use crate::trail::Trail;
 use programs::closure::check;
 use programs::literal::{Literal, LiteralSet};
 use programs::refusal::Refusal;
-use programs::rule::MAX_RULES;
 use programs::source::RuleSource;
 
 // What a search found: the smallest model that was asked for, or none, and how many nodes it visited on the way.
-#[derive(Clone, Copy)]
+#[derive(Clone, Copy, PartialEq, Eq, Debug)]
 pub struct Found {
     pub model: Option<u64>,
     pub nodes: u64,
@@ -31,80 +29,8 @@ fn undecided(atoms: u8, known: LiteralSet) -> u64
     requires { atoms ≤ 64 }
     ensures { (i : ℕ) → (bit result i ≡ 1 → Decided i known → ⊥) × (i < atoms → bit result i ≡ 0 → Decided i known) }
 {
-    match LiteralSet::of_interpretation(atoms, 0) {
-        Ok(all) => all.negative & !(known.positive | known.negative),
-        Err(_) => unreachable(),
-    }
-}
-
-// The answer where every atom is decided: this one interpretation, or none.
-fn settle<S: RuleSource>(source: &S, trail: &Trail) -> Result<u64, LiteralSet>
-    requires { Orderly trail.now × ((w : ℕ) → Model (S.program source.now) w → Respects w trail.now) × ((i : ℕ) → i < (S.program source.now).atoms → Decided i trail.now.known) }
-    ensures { Searched (S.program source.now) trail.now.start result }
-{
-    let word = trail.known.positive;
-    let Ok(is_model) = check(source, word) else {
-        return Err(trail.start);
-    };
-    if is_model { Ok(word) } else { Err(trail.start) }
-}
-
-// The smallest model that has the literals of the start, or a part of the start that no model has. What follows is found
-// without a choice; then the highest undecided atom is tried, false first, so that the first model found is the smallest.
-fn search<S: RuleSource>(
-    source: &S,
-    rules: &[KnownRule],
-    rows: &[LiteralSet],
-    learned: &mut Learned,
-    start: LiteralSet,
-) -> Result<u64, LiteralSet>
-    requires { Prepared (S.program source.now) rules.now rows.now × Learns (S.program source.now) learned.old × Consistent start }
-    ensures { Searched (S.program source.now) start result × Learns (S.program source.now) learned.new × 1 ≤ learned.new.nodes }
-{
-    learned.count_node();
-    let mut trail = Trail::starting(start);
-    loop {
-        if let Err(reason) = narrow(source, rules, rows, learned, &mut trail) {
-            learned.keep(reason);
-            return Err(reason);
-        }
-        let Some(atom) = highest(undecided(source.atoms(), trail.known)) else {
-            return settle(source, &trail);
-        };
-        let lower = plus(
-            trail.known,
-            Literal {
-                atom,
-                negative: true,
-            },
-        );
-        match search(source, rules, rows, learned, lower) {
-            Ok(model) => return Ok(model),
-            Err(nogood) => {
-                trail.apply(nogood)?;
-            }
-        }
-    }
-}
-
-// The smallest model that has the literals of the start, which may contradict each other.
-fn search_from<S: RuleSource>(
-    source: &S,
-    rules: &[KnownRule],
-    rows: &[LiteralSet],
-    learned: &mut Learned,
-    start: LiteralSet,
-) -> Option<u64>
-    requires { Prepared (S.program source.now) rules.now rows.now × Learns (S.program source.now) learned.old }
-    ensures { MatchOption result (NoGood (S.program source.now) start) (λ w. SmallestWith (S.program source.now) start w × (1 ≤ learned.new.nodes)) × Learns (S.program source.now) learned.new }
-{
-    if !start.is_disjoint(start.complements()) {
-        return None;
-    }
-    match search(source, rules, rows, learned, start) {
-        Ok(model) => Some(model),
-        Err(_) => None,
-    }
+    let all = LiteralSet::of_interpretation(atoms, 0).unwrap().negative;
+    all & !(known.positive | known.negative)
 }
 
 // The literals of the numbers that agree with the mark above an atom, and in which that atom is true.
@@ -118,40 +44,79 @@ fn block(mark: LiteralSet, atom: u8) -> LiteralSet
         positive: low,
         negative: low,
     });
-    plus(
-        above,
-        Literal {
-            atom,
-            negative: false,
-        },
-    )
+    plus(above, Literal::positive(atom))
 }
 
-// The smallest model above the mark that has the given literals. The numbers above the mark fall into blocks, one for each
-// clear bit of it: those that have the bit, and agree with the mark above it. The blocks rise with the bit.
-fn search_above<S: RuleSource>(
-    source: &S,
-    rules: &[KnownRule],
-    rows: &[LiteralSet],
-    learned: &mut Learned,
-    given: LiteralSet,
-    mark: u64,
-) -> Option<u64>
-    requires { Prepared (S.program source.now) rules.now rows.now × Learns (S.program source.now) learned.old }
-    ensures { NamesSmallest (ModelAboveWith (S.program source.now) given (Some mark)) result × (is_some result ≡ true → 1 ≤ learned.new.nodes) }
-{
-    let Ok(own) = LiteralSet::of_interpretation(source.atoms(), mark) else {
-        return None;
-    };
-    for atom in 0..source.atoms() {
-        if mark >> atom & 1 == 0 {
-            let start = given.union(block(own, atom));
-            if let Some(model) = search_from(source, rules, rows, learned, start) {
-                return Some(model);
+impl<'a, S: RuleSource> Problem<'a, S> {
+    // The answer where every atom is decided: this one interpretation, or none.
+    fn settle(&self, trail: &Trail) -> Result<u64, LiteralSet>
+        requires { ((w : ℕ) → Model (S.program self.now.source.now) w → Respects w trail.now) × ((i : ℕ) → i < (S.program self.now.source.now).atoms → Decided i trail.now.known) }
+        ensures { Searched (S.program self.now.source.now) trail.now.start result }
+    {
+        let word = trail.known.positive;
+        if check(self.source, word) == Ok(true) {
+            Ok(word)
+        } else {
+            Err(trail.start)
+        }
+    }
+
+    // The smallest model that has the literals of the start, or a part of the start that no model has. What follows is
+    // found without a choice; then the highest undecided atom is tried, false first, so that the first model found is
+    // the smallest.
+    fn search(&self, learned: &mut Learned, start: LiteralSet) -> Result<u64, LiteralSet>
+        requires { Learns (S.program self.now.source.now) learned.old × Consistent start }
+        ensures { Searched (S.program self.now.source.now) start result × Learns (S.program self.now.source.now) learned.new × 1 ≤ learned.new.nodes }
+    {
+        learned.count_node();
+        let mut trail = Trail::starting(start);
+        loop {
+            if let Err(reason) = self.narrow(learned, &mut trail) {
+                learned.keep(reason);
+                return Err(reason);
+            }
+            let Some(atom) = highest(undecided(self.source.atoms(), trail.known)) else {
+                return self.settle(&trail);
+            };
+            let lower = plus(trail.known, Literal::positive(atom).complement());
+            match self.search(learned, lower) {
+                Ok(model) => return Ok(model),
+                Err(nogood) => {
+                    trail.apply(nogood)?;
+                }
             }
         }
     }
-    None
+
+    // The smallest model that has the literals of the start, which may contradict each other.
+    fn search_from(&self, learned: &mut Learned, start: LiteralSet) -> Option<u64>
+        requires { Learns (S.program self.now.source.now) learned.old }
+        ensures { MatchOption result (NoGood (S.program self.now.source.now) start) (λ w. SmallestWith (S.program self.now.source.now) start w × (1 ≤ learned.new.nodes)) × Learns (S.program self.now.source.now) learned.new }
+    {
+        if !agrees(start, start) {
+            return None;
+        }
+        self.search(learned, start).ok()
+    }
+
+    // The smallest model above the mark that has the given literals. The numbers above the mark fall into blocks, one
+    // for each clear bit of it: those that have the bit, and agree with the mark above it. The blocks rise with the
+    // bit. A `find_map` in place of the loop would get no proof: what is learned changes from call to call.
+    fn search_above(&self, learned: &mut Learned, given: LiteralSet, mark: u64) -> Option<u64>
+        requires { Learns (S.program self.now.source.now) learned.old }
+        ensures { NamesSmallest (ModelAboveWith (S.program self.now.source.now) given (Some mark)) result × (is_some result ≡ true → 1 ≤ learned.new.nodes) }
+    {
+        let own = LiteralSet::of_interpretation(self.source.atoms(), mark).ok()?;
+        for atom in 0..self.source.atoms() {
+            if mark >> atom & 1 == 0 {
+                let start = given.union(block(own, atom));
+                if let Some(model) = self.search_from(learned, start) {
+                    return Some(model);
+                }
+            }
+        }
+        None
+    }
 }
 
 // The smallest model above the mark, or of all models where there is no mark, that has the given literals.
@@ -165,17 +130,11 @@ pub fn smallest_above_with<S: RuleSource>(
     if !given.is_below(source.atoms()) {
         return Err(Refusal::OutOfRange);
     }
-    let count = source.rule_count();
-    let mut all_rules = [KnownRule::UNKNOWN; MAX_RULES];
-    let rules = &mut all_rules[0..count];
-    ask_rules(source, rules)?;
-    let mut all_rows = [LiteralSet::EMPTY; MAX_RULES];
-    let rows = &mut all_rows[0..count];
-    make_rows(rules, rows);
+    let problem = Problem::new(source);
     let mut learned = Learned::new();
     let model = match mark {
-        Some(mark) => search_above(source, rules, rows, &mut learned, given, mark),
-        None => search_from(source, rules, rows, &mut learned, given),
+        Some(mark) => problem.search_above(&mut learned, given, mark),
+        None => problem.search_from(&mut learned, given),
     };
     Ok(Found {
         model,
@@ -187,8 +146,7 @@ pub fn smallest_above_with<S: RuleSource>(
 pub fn smallest_above<S: RuleSource>(source: &S, mark: Option<u64>) -> Option<u64>
     ensures { NamesSmallest (ModelAbove (S.program source.now) mark) result }
 {
-    match smallest_above_with(source, LiteralSet::EMPTY, mark) {
-        Ok(found) => found.model,
-        Err(_) => unreachable(),
-    }
+    smallest_above_with(source, LiteralSet::EMPTY, mark)
+        .unwrap()
+        .model
 }

@@ -1,13 +1,14 @@
 // Literals that no model can derive any more: those outside the upper closure.
-ghost use Rattle.std.specs.Prelude.{◌≡◌, ℕ, ◌<◌, ◌≤◌, length, IfSome};
-ghost use Rattle.programs.specs.declared.literal.Literal.{Literal as SomeLiteral};
-ghost use Rattle.programs.specs.Literals.{Member, Subset, TrueIn, AllTrue};
+ghost use Rattle.std.specs.Prelude.{◌<◌, length, IfSome};
+ghost use Rattle.std.specs.Iterator.{IsFinite};
+ghost use Rattle.programs.specs.Literals.{Subset};
 ghost use Rattle.programs.specs.Programs.{Model};
-ghost use Rattle.search.specs.Rows.{Keeps, KeepsAll, Blocks, BlocksAll};
-ghost use Rattle.search.specs.Trails.{Orderly, Narrowed};
+ghost use Rattle.search.specs.Rows.{Keeps, Blocks, BlocksAll};
+ghost use Rattle.search.specs.Trails.{Narrowed};
 
-use crate::picks::{pick, plus};
-use crate::rows::{KnownRule, is_settled, settling};
+use crate::picks::{agrees, pick, plus};
+use crate::problem::Problem;
+use crate::rows::KnownRule;
 use crate::trail::Trail;
 use programs::literal::{Literal, LiteralSet};
 use programs::source::RuleSource;
@@ -15,190 +16,165 @@ use programs::source::RuleSource;
 // More than the rounds in which a set of literals can grow.
 const ROUNDS: usize = 129;
 
-// Whether what is known keeps rule i from deriving its head.
-fn is_blocked<S: RuleSource>(source: &S, i: usize, rule: KnownRule, known: LiteralSet) -> bool {
-    if !rule.body().is_disjoint(known.complements()) {
-        return true;
+impl<'a, S: RuleSource> Problem<'a, S> {
+    // Whether what is known keeps a rule from deriving its head.
+    fn is_blocked(&self, rule: &KnownRule, known: LiteralSet) -> bool {
+        !agrees(rule.body(), known)
+            || rule.justification.is_none() && self.is_settled(rule, known, false)
     }
-    rule.justification.is_none() && is_settled(source, i, known, false)
-}
 
-// Each rule once, from the first to the last or the other way: the set with the heads that it leads to.
-fn upper_round<S: RuleSource>(
-    source: &S,
-    rules: &[KnownRule],
-    known: LiteralSet,
-    derived: LiteralSet,
-    backward: bool,
-) -> LiteralSet {
-    let mut grown = derived;
-    for turn in 0..rules.len() {
-        let i = if backward {
-            rules.len() - 1 - turn
-        } else {
-            turn
-        };
-        let rule = rules[i];
-        if grown.includes(rule.premises)
-            && !grown.includes(rule.head)
-            && !is_blocked(source, i, rule, known)
-        {
-            grown = grown.union(rule.head);
-        }
-    }
-    grown
-}
-
-// The upper closure, as two words: what the rules derive that the known literals do not block. A model that has the known
-// literals lies within it. The search takes it as a hint where to look, and proves what it finds there.
-fn upper_closure<S: RuleSource>(source: &S, rules: &[KnownRule], known: LiteralSet) -> (u64, u64) {
-    let mut derived = LiteralSet::EMPTY;
-    for turn in 0..ROUNDS {
-        let grown = upper_round(source, rules, known, derived, turn % 2 == 1);
-        if grown == derived {
-            break;
-        }
-        derived = grown;
-    }
-    (derived.positive, derived.negative)
-}
-
-// A set that could be unfounded, with one premise more for each rule that would support it.
-fn unfounded_round<S: RuleSource>(
-    source: &S,
-    rules: &[KnownRule],
-    known: LiteralSet,
-    supported: LiteralSet,
-    set: LiteralSet,
-) -> LiteralSet
-    ensures { Subset set result }
-{
-    let mut grown = set;
-    for i in 0..rules.len() {
-        let rule = rules[i];
-        if grown.includes(rule.head)
-            && grown.is_disjoint(rule.premises)
-            && !is_blocked(source, i, rule, known)
-        {
-            if let Some(premise) = pick(rule.premises.difference(supported)) {
-                grown = plus(grown, premise);
+    // Each of the rules once: the set with the heads that it leads to.
+    fn upper_round<'b, I: Iterator<Item = &'b KnownRule> + Drop>(
+        &self,
+        rules: I,
+        known: LiteralSet,
+        derived: LiteralSet,
+    ) -> LiteralSet
+        requires can { I.can_next rules }
+        requires ends { IsFinite (I.remaining rules) }
+    {
+        let mut grown = derived;
+        for rule in rules {
+            if grown.includes(rule.premises)
+                && !grown.includes(rule.head)
+                && !self.is_blocked(rule, known)
+            {
+                grown = grown.union(rule.head);
             }
         }
+        grown
     }
-    grown
-}
 
-// A set that could be unfounded, around a literal outside the upper closure.
-fn unfounded_set<S: RuleSource>(
-    source: &S,
-    rules: &[KnownRule],
-    known: LiteralSet,
-    supported: LiteralSet,
-    literal: LiteralSet,
-) -> LiteralSet
-    ensures { Subset literal result }
-{
-    let mut set = literal;
-    for _ in 0..ROUNDS {
-        let grown = unfounded_round(source, rules, known, supported, set);
-        if grown == set {
-            break;
+    // The upper closure, as two words, as any closure of the engine (docs/DECISIONS.md, "Forms"): what the rules derive
+    // that the known literals do not block. A model that has the known literals lies within it. The search takes it as a
+    // hint where to look, and proves what it finds there.
+    fn upper_closure(&self, known: LiteralSet) -> (u64, u64) {
+        let mut derived = LiteralSet::EMPTY;
+        for turn in 0..ROUNDS {
+            let grown = if turn % 2 == 0 {
+                self.upper_round(self.rules.iter(), known, derived)
+            } else {
+                self.upper_round(self.rules.iter().rev(), known, derived)
+            };
+            if grown == derived {
+                break;
+            }
+            derived = grown;
         }
-        set = grown;
+        (derived.positive, derived.negative)
     }
-    set
-}
 
-// Known literals that keep rule i from deriving its head, gathered with those that block other rules: where these do it
-// already, no more are needed.
-fn block<S: RuleSource>(
-    source: &S,
-    i: usize,
-    rule: KnownRule,
-    known: LiteralSet,
-    gathered: LiteralSet,
-) -> Option<LiteralSet>
-    requires { Keeps (S.program source.now) i rule × Subset gathered known }
-    ensures { IfSome result (λ B. Subset gathered B × Subset B known × Blocks (S.program source.now) i B) }
-{
-    let against = rule.body().complements();
-    if !gathered.is_disjoint(against) {
-        return Some(gathered);
-    }
-    let clash = known.difference(known.difference(against));
-    if let Some(literal) = pick(clash) {
-        return Some(plus(gathered, literal));
-    }
-    if rule.justification.is_none() && is_settled(source, i, known, false) {
-        return Some(gathered.union(settling(source, i, known, false)));
-    }
-    None
-}
-
-// Known literals because of which no rule derives a literal of the set from outside it, if there are such.
-fn block_all<S: RuleSource>(
-    source: &S,
-    rules: &[KnownRule],
-    known: LiteralSet,
-    set: LiteralSet,
-) -> Option<LiteralSet>
-    requires { KeepsAll (S.program source.now) (length rules.now) rules.now }
-    ensures { IfSome result (λ B. Subset B known × BlocksAll (S.program source.now) rules.now set (length rules.now) B) }
-{
-    let mut gathered = LiteralSet::EMPTY;
-    for i in 0..rules.len() {
-        let rule = rules[i];
-        if set.includes(rule.head) && set.is_disjoint(rule.premises) {
-            gathered = block(source, i, rule, known, gathered)?;
+    // A set that could be unfounded, with one premise more for each rule that would support it.
+    fn unfounded_round(
+        &self,
+        known: LiteralSet,
+        supported: LiteralSet,
+        set: LiteralSet,
+    ) -> LiteralSet
+        ensures { Subset set result }
+    {
+        let mut grown = set;
+        for rule in self.rules.iter() {
+            if rule.supports(grown) && !self.is_blocked(rule, known) {
+                if let Some(premise) = pick(rule.premises.difference(supported)) {
+                    grown = plus(grown, premise);
+                }
+            }
         }
+        grown
     }
-    Some(gathered)
-}
 
-// Excludes a literal outside the upper closure: no model has it together with what blocks the rules of an unfounded set
-// around it.
-fn exclude<S: RuleSource>(
-    source: &S,
-    rules: &[KnownRule],
-    supported: LiteralSet,
-    trail: &mut Trail,
-    literal: Literal,
-) -> Result<bool, LiteralSet>
-    requires { KeepsAll (S.program source.now) (length rules.now) rules.now × length rules.now ≡ length (S.program source.now).rules × Orderly trail.old × (literal.atom < (S.program source.now).atoms) }
-    ensures { Narrowed (Model (S.program source.now)) trail.old result trail.new }
-{
-    let known = trail.known;
-    if supported.contains(literal) || known.contains(literal.complement()) {
-        return Ok(false);
+    // A set that could be unfounded, around a literal outside the upper closure. Its loop is like that of the upper
+    // closure; one function that is given the round would be no plainer, since its contract has to say that each round
+    // only adds.
+    fn unfounded_set(
+        &self,
+        known: LiteralSet,
+        supported: LiteralSet,
+        literal: LiteralSet,
+    ) -> LiteralSet
+        ensures { Subset literal result }
+    {
+        let mut set = literal;
+        for _ in 0..ROUNDS {
+            let grown = self.unfounded_round(known, supported, set);
+            if grown == set {
+                break;
+            }
+            set = grown;
+        }
+        set
     }
-    let alone = plus(LiteralSet::EMPTY, literal);
-    let set = unfounded_set(source, rules, known, supported, alone);
-    let Some(blockers) = block_all(source, rules, known, set) else {
-        return Ok(false);
-    };
-    trail.apply(plus(blockers, literal))
-}
 
-// Excludes each literal outside the upper closure. The answer is whether that made something known.
-pub fn exclude_unfounded<S: RuleSource>(
-    source: &S,
-    rules: &[KnownRule],
-    trail: &mut Trail,
-) -> Result<bool, LiteralSet>
-    requires { KeepsAll (S.program source.now) (length rules.now) rules.now × length rules.now ≡ length (S.program source.now).rules × Orderly trail.old }
-    ensures { Narrowed (Model (S.program source.now)) trail.old result trail.new }
-{
-    let (positive, negative) = upper_closure(source, rules, trail.known);
-    let supported = LiteralSet { positive, negative };
-    let mut grew = false;
-    for number in 0..2 * source.atoms() {
-        let literal = Literal {
-            atom: number / 2,
-            negative: number % 2 == 1,
+    // Known literals that keep a rule from deriving its head, gathered with those that block other rules: where these
+    // do it already, no more are needed.
+    fn block(&self, rule: &KnownRule, known: LiteralSet, gathered: LiteralSet) -> Option<LiteralSet>
+        requires { Keeps (S.program self.now.source.now) rule.now × Subset gathered known }
+        ensures { IfSome result (λ B. Subset gathered B × Subset B known × Blocks (S.program self.now.source.now) rule.now.number B) }
+    {
+        let body = rule.body();
+        if !agrees(gathered, body) {
+            return Some(gathered);
+        }
+        let clash = known.difference(known.difference(body.complements()));
+        if let Some(literal) = pick(clash) {
+            return Some(plus(gathered, literal));
+        }
+        if rule.justification.is_some() {
+            return None;
+        }
+        let settling = self.settling(rule, known, false)?;
+        Some(gathered.union(settling))
+    }
+
+    // Known literals because of which no rule derives a literal of the set from outside it, if there are such.
+    fn block_all(&self, known: LiteralSet, set: LiteralSet) -> Option<LiteralSet>
+        ensures { IfSome result (λ B. Subset B known × BlocksAll (S.program self.now.source.now) self.now.rules.items set (length self.now.rules.items) B) }
+    {
+        let mut gathered = LiteralSet::EMPTY;
+        for rule in self.rules.iter() {
+            if rule.supports(set) {
+                gathered = self.block(rule, known, gathered)?;
+            }
+        }
+        Some(gathered)
+    }
+
+    // Excludes a literal outside the upper closure: no model has it together with what blocks the rules of an unfounded
+    // set around it.
+    fn exclude(
+        &self,
+        supported: LiteralSet,
+        trail: &mut Trail,
+        literal: Literal,
+    ) -> Result<bool, LiteralSet>
+        requires { literal.atom < (S.program self.now.source.now).atoms }
+        ensures { Narrowed (Model (S.program self.now.source.now)) trail.old result trail.new }
+    {
+        let known = trail.known;
+        if supported.contains(literal) || known.contains(literal.complement()) {
+            return Ok(false);
+        }
+        let alone = plus(LiteralSet::EMPTY, literal);
+        let set = self.unfounded_set(known, supported, alone);
+        let Some(blockers) = self.block_all(known, set) else {
+            return Ok(false);
         };
-        if exclude(source, rules, supported, trail, literal)? {
-            grew = true;
-        }
+        trail.apply(plus(blockers, literal))
     }
-    Ok(grew)
+
+    // Excludes each literal outside the upper closure. The answer is whether that made something known.
+    pub fn exclude_unfounded(&self, trail: &mut Trail) -> Result<bool, LiteralSet>
+        ensures { Narrowed (Model (S.program self.now.source.now)) trail.old result trail.new }
+    {
+        let (positive, negative) = self.upper_closure(trail.known);
+        let supported = LiteralSet { positive, negative };
+        let mut grew = false;
+        for atom in 0..self.source.atoms() {
+            let literal = Literal::positive(atom);
+            grew |= self.exclude(supported, trail, literal)?;
+            grew |= self.exclude(supported, trail, literal.complement())?;
+        }
+        Ok(grew)
+    }
 }

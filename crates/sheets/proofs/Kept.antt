@@ -1,37 +1,26 @@
 -- The laws that a sheet keeps.
 use Rattle.std.proofs.Common.{◌≡◌, ℕ, zero, suc, ◌+◌, ◌<◌, false, List, [], ◌∷◌, ◌++◌, length, get_or, take, sym, refl, ap, ◌∙◌, subst, ap₂, arith}
-use Rattle.std.specs.List.{AllByRecursion}
-use Rattle.std.proofs.ByRecursion.{All-get_or}
-use Rattle.std.proofs.lemmas.List.{length-take-le, get_or-take, take_more}
+use Rattle.std.specs.List.{All}
+use Rattle.std.proofs.lemmas.List.Elements.{All-head, All-tail}
+use Rattle.std.proofs.lemmas.List.{take_more}
 use Rattle.sheets.specs.declared.law.Law.{Law}
 use Rattle.sheets.specs.declared.law.Law.TheVariants.{Static, Dynamic}
 use Rattle.sheets.specs.declared.law.StaticLaw.{StaticLaw}
 use Rattle.sheets.specs.declared.law.DynamicLaw.{DynamicLaw}
 use Rattle.sheets.specs.declared.action_sheet.ActionSheet.{ActionSheet}
-use Rattle.sheets.specs.Laws.{Description, DescriptionFits, statics_of, dynamics_of, described, StaticInRange, DynamicInRange}
-use Rattle.sheets.specs.Sheets.{description}
-use Rattle.sheets.specs.Steps.{with_law, LawInRange}
-use Rattle.sheets.specs.Fits.{sheet_fits}
+use Rattle.sheets.specs.Laws.{Description, DescriptionFits, statics_of, dynamics_of, described, StaticInRange, DynamicInRange, LawInRange}
+use Rattle.sheets.specs.Steps.{with_law}
 
--- what stands in a place that no law has taken yet
+-- what a read past the last dynamic law would give
 abbrev pub no_dynamic : DynamicLaw
 no_dynamic = record { action = 0; head = record { atom = 0; negative = false }; condition = record { positive = 0; negative = 0 } }
 
-pub static_length : (s : ActionSheet) → length (description s).statics ≡ s.static_count
-static_length s = length-take-le s.static_count s.statics (omega arith)
+-- a law of a sheet is in range, read from a slice of its laws
+pub static_in_range : (s : ActionSheet) (laws : List StaticLaw) → laws ≡ s.statics.items → (k : ℕ) (d : StaticLaw) → k < length s.statics.items → StaticInRange s.fluents (get_or laws k d)
+static_in_range s laws e k d l = subst (λ xs. StaticInRange s.fluents (get_or xs k d)) (sym e) (s.each_static k d l)
 
-pub dynamic_length : (s : ActionSheet) → length (description s).dynamics ≡ s.dynamic_count
-dynamic_length s = length-take-le s.dynamic_count s.dynamics (omega arith)
-
-pub static_in_range : (s : ActionSheet) (k : ℕ) (d : StaticLaw) → k < s.static_count → StaticInRange s.fluents (get_or s.statics k d)
-static_in_range s k d l =
-    subst (StaticInRange s.fluents) (get_or-take s.static_count s.statics k d l)
-    (All-get_or (StaticInRange s.fluents) (description s).statics k d (omega (arith, static_length s)) (sheet_fits s).statics)
-
-pub dynamic_in_range : (s : ActionSheet) (k : ℕ) (d : DynamicLaw) → k < s.dynamic_count → DynamicInRange s.fluents s.actions (get_or s.dynamics k d)
-dynamic_in_range s k d l =
-    subst (DynamicInRange s.fluents s.actions) (get_or-take s.dynamic_count s.dynamics k d l)
-    (All-get_or (DynamicInRange s.fluents s.actions) (description s).dynamics k d (omega (arith, dynamic_length s)) (sheet_fits s).dynamics)
+pub dynamic_in_range : (s : ActionSheet) (laws : List DynamicLaw) → laws ≡ s.dynamics.items → (k : ℕ) (d : DynamicLaw) → k < length s.dynamics.items → DynamicInRange s.fluents s.actions (get_or laws k d)
+dynamic_in_range s laws e k d l = subst (λ xs. DynamicInRange s.fluents s.actions (get_or xs k d)) (sym e) (s.each_dynamic k d l)
 
 -- the laws by kind, of a list with one law more
 statics_push : (laws : List Law) (law : StaticLaw) → statics_of (laws ++ Static law ∷ []) ≡ statics_of laws ++ law ∷ []
@@ -69,12 +58,12 @@ length_by_kind (Static law ∷ laws) = omega (arith, length_by_kind laws)
 length_by_kind (Dynamic law ∷ laws) = omega (arith, length_by_kind laws)
 
 -- where a description fits, each of its laws is in range
-law_at : (f e : ℕ) (laws : List Law) (i : ℕ) (l : Law) → i < length laws → AllByRecursion (StaticInRange f) (statics_of laws) → AllByRecursion (DynamicInRange f e) (dynamics_of laws) → LawInRange f e (get_or laws i l)
+law_at : (f e : ℕ) (laws : List Law) (i : ℕ) (l : Law) → i < length laws → All (StaticInRange f) (statics_of laws) → All (DynamicInRange f e) (dynamics_of laws) → LawInRange f e (get_or laws i l)
 law_at f e [] i l h s t = absurd (omega arith)
-law_at f e (Static law ∷ laws) zero l h s t = s.0
-law_at f e (Static law ∷ laws) (suc i) l h s t = law_at f e laws i l (omega arith) s.1 t
-law_at f e (Dynamic law ∷ laws) zero l h s t = t.0
-law_at f e (Dynamic law ∷ laws) (suc i) l h s t = law_at f e laws i l (omega arith) s t.1
+law_at f e (Static law ∷ laws) zero l h s t = All-head (StaticInRange f) law (statics_of laws) s
+law_at f e (Static law ∷ laws) (suc i) l h s t = law_at f e laws i l (omega arith) (All-tail (StaticInRange f) law (statics_of laws) s) t
+law_at f e (Dynamic law ∷ laws) zero l h s t = All-head (DynamicInRange f e) law (dynamics_of laws) t
+law_at f e (Dynamic law ∷ laws) (suc i) l h s t = law_at f e laws i l (omega arith) s (All-tail (DynamicInRange f e) law (dynamics_of laws) t)
 
 pub law_in_range : (d : Description) (f e : ℕ) (laws : List Law) (i : ℕ) (l : Law) → i < length laws → d ≡ described f e (take i laws) → DescriptionFits (described f e laws) → LawInRange d.fluents d.actions (get_or laws i l)
 law_in_range d f e laws i l h same fits =

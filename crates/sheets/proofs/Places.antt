@@ -1,9 +1,9 @@
 -- Which rule of an action program stands at which number.
-use Rattle.std.proofs.Common.{◌≡◌, ℕ, zero, suc, ◌+◌, ◌-◌, ◌*◌, ◌/◌, ◌%◌, ◌<◌, ◌≤◌, eqb, List, [], ◌∷◌, ◌++◌, map, length, get_or, refl, ap, ◌∙◌, ap₂, inl, inr, arith}
+use Rattle.std.proofs.Common.{◌≡◌, ℕ, zero, suc, ◌+◌, ◌-◌, ◌*◌, ◌/◌, ◌%◌, ◌<◌, ◌≤◌, eqb, List, [], ◌∷◌, ◌++◌, map, length, get_or, refl, sym, ap, ◌∙◌, ap₂, inl, inr, arith}
 use lib.ListN.{length-map}
 use Rattle.std.specs.List.{flat_map, range_with_len}
 use Rattle.std.proofs.lemmas.List.FromFn.{length-range_with_len, get_or-range_with_len}
-use Rattle.std.proofs.lemmas.List.{get_or_append_left, get_or-append_right, get_or-map, get_or-take}
+use Rattle.std.proofs.lemmas.List.{get_or_append_left, get_or-append_right, get_or-map}
 use Rattle.std.proofs.lemmas.Bool.{cases_lt}
 use Rattle.programs.specs.declared.literal.Literal.{Literal}
 use Rattle.programs.specs.declared.literal.LiteralSet.{LiteralSet}
@@ -15,7 +15,6 @@ use Rattle.sheets.specs.Actions.{earlier, both_times, effect, either_way, inerti
 use Rattle.sheets.specs.Fits.{length-flat_map, action_length}
 use Rattle.sheets.specs.Sheets.{description}
 use Rattle.sheets.specs.Steps.{rule_in}
-use Rattle.sheets.proofs.Kept.{static_length, dynamic_length}
 
 -- a list that is joined of pairs
 pub get_or-flat_map : {X A : Type 0} (f : X → List A) → ((x : X) → length (f x) ≡ 2) → (xs : List X) (i : ℕ) (d : A) (e : X) → i < 2 * length xs → get_or (flat_map f xs) i d ≡ get_or (f (get_or xs (i / 2) e)) (i % 2) d
@@ -77,40 +76,40 @@ module _ {A : Type 0} (xs ys zs ws : List A) (a b c : ℕ) (first : length xs �
 
 -- the four parts of a sheet's rules
 module _ (s : ActionSheet) where
-  static_part : length (flat_map (both_times (description s)) (description s).statics) ≡ 2 * s.static_count
-  static_part = length-flat_map (both_times (description s)) (λ _. refl) (description s).statics ∙ ap (λ n. 2 * n) (static_length s)
+  static_part : length (flat_map (both_times (description s)) (description s).statics) ≡ 2 * length s.statics.items
+  static_part = length-flat_map (both_times (description s)) (λ _. refl) (description s).statics
 
-  effect_part : length (map (effect (description s)) (description s).dynamics) ≡ s.dynamic_count
-  effect_part = length-map (description s).dynamics (effect (description s)) ∙ dynamic_length s
+  effect_part : length (map (effect (description s)) (description s).dynamics) ≡ length s.dynamics.items
+  effect_part = length-map (description s).dynamics (effect (description s))
 
   inertia_part : length (flat_map (inertia (description s)) (range_with_len 0 s.fluents)) ≡ 2 * s.fluents
   inertia_part = length-flat_map (inertia (description s)) (λ _. refl) (range_with_len 0 s.fluents) ∙ ap (λ n. 2 * n) (length-range_with_len 0 s.fluents)
 
-  pub sheet_length : length (action_rules (description s)) ≡ 2 * s.static_count + s.dynamic_count + 2 * s.fluents + 2 * (s.fluents + s.actions)
-  sheet_length = omega (arith, action_length (description s), static_length s, dynamic_length s)
+  pub sheet_length : length (action_rules (description s)) ≡ 2 * length s.statics.items + length s.dynamics.items + 2 * s.fluents + 2 * (s.fluents + s.actions)
+  sheet_length = omega (arith, action_length (description s))
 
-  pub static_place : (i : ℕ) → i < 2 * s.static_count → rule_at (action_program (description s)) i ≡ rule_in (flat_map (both_times (description s)) (description s).statics) i
+  pub static_place : (i : ℕ) → i < 2 * length s.statics.items → rule_at (action_program (description s)) i ≡ rule_in (flat_map (both_times (description s)) (description s).statics) i
   static_place i l = in_first _ _ _ _ _ _ _ static_part effect_part inertia_part _ i l
 
-  pub effect_place : (i : ℕ) → 2 * s.static_count ≤ i → i < 2 * s.static_count + s.dynamic_count → rule_at (action_program (description s)) i ≡ rule_in (map (effect (description s)) (description s).dynamics) (i - 2 * s.static_count)
+  pub effect_place : (i : ℕ) → 2 * length s.statics.items ≤ i → i < 2 * length s.statics.items + length s.dynamics.items → rule_at (action_program (description s)) i ≡ rule_in (map (effect (description s)) (description s).dynamics) (i - 2 * length s.statics.items)
   effect_place i h l = in_second _ _ _ _ _ _ _ static_part effect_part inertia_part _ i h l
 
-  pub inertia_place : (i : ℕ) → 2 * s.static_count + s.dynamic_count ≤ i → i < 2 * s.static_count + s.dynamic_count + 2 * s.fluents → rule_at (action_program (description s)) i ≡ rule_in (flat_map (inertia (description s)) (range_with_len 0 s.fluents)) (i - (2 * s.static_count + s.dynamic_count))
+  pub inertia_place : (i : ℕ) → 2 * length s.statics.items + length s.dynamics.items ≤ i → i < 2 * length s.statics.items + length s.dynamics.items + 2 * s.fluents → rule_at (action_program (description s)) i ≡ rule_in (flat_map (inertia (description s)) (range_with_len 0 s.fluents)) (i - (2 * length s.statics.items + length s.dynamics.items))
   inertia_place i h l = in_third _ _ _ _ _ _ _ static_part effect_part inertia_part _ i h l
 
-  pub choice_place : (i : ℕ) → 2 * s.static_count + s.dynamic_count + 2 * s.fluents ≤ i → rule_at (action_program (description s)) i ≡ rule_in (flat_map choice (range_with_len 0 (earlier (description s)))) (i - (2 * s.static_count + s.dynamic_count + 2 * s.fluents))
+  pub choice_place : (i : ℕ) → 2 * length s.statics.items + length s.dynamics.items + 2 * s.fluents ≤ i → rule_at (action_program (description s)) i ≡ rule_in (flat_map choice (range_with_len 0 (earlier (description s)))) (i - (2 * length s.statics.items + length s.dynamics.items + 2 * s.fluents))
   choice_place i h = in_fourth _ _ _ _ _ _ _ static_part effect_part inertia_part _ i h
 
-  -- a rule of a law
-  pub static_rule_at : (i : ℕ) (e : StaticLaw) → i < 2 * s.static_count → rule_in (flat_map (both_times (description s)) (description s).statics) i ≡ rule_in (both_times (description s) (get_or s.statics (i / 2) e)) (i % 2)
-  static_rule_at i e l =
-      get_or-flat_map (both_times (description s)) (λ _. refl) (description s).statics i _ e (omega (arith, static_length s))
-      ∙ ap (λ law. rule_in (both_times (description s) law) (i % 2)) (get_or-take s.static_count s.statics (i / 2) e (omega arith))
+  -- a rule of a law, read from a slice of the laws
+  pub static_rule_at : (laws : List StaticLaw) → laws ≡ s.statics.items → (i : ℕ) (d : StaticLaw) → i < 2 * length s.statics.items → rule_in (flat_map (both_times (description s)) s.statics.items) i ≡ rule_in (both_times (description s) (get_or laws (i / 2) d)) (i % 2)
+  static_rule_at laws e i d l =
+      get_or-flat_map (both_times (description s)) (λ _. refl) s.statics.items i _ d l
+      ∙ ap (λ xs. rule_in (both_times (description s) (get_or xs (i / 2) d)) (i % 2)) (sym e)
 
-  pub effect_at : (i : ℕ) (e : DynamicLaw) → i < s.dynamic_count → rule_in (map (effect (description s)) (description s).dynamics) i ≡ effect (description s) (get_or s.dynamics i e)
-  effect_at i e l =
-      get_or-map (effect (description s)) (description s).dynamics i e _ (omega (arith, dynamic_length s))
-      ∙ ap (effect (description s)) (get_or-take s.dynamic_count s.dynamics i e l)
+  pub effect_at : (laws : List DynamicLaw) → laws ≡ s.dynamics.items → (i : ℕ) (d : DynamicLaw) → i < length s.dynamics.items → rule_in (map (effect (description s)) s.dynamics.items) i ≡ effect (description s) (get_or laws i d)
+  effect_at laws e i d l =
+      get_or-map (effect (description s)) s.dynamics.items i d _ l
+      ∙ ap (λ xs. effect (description s) (get_or xs i d)) (sym e)
 
 -- a rule by its parts
 pub same_rule : (l m : Literal) (X Y U V : LiteralSet) → l ≡ m → X ≡ Y → U ≡ V → ◌≡◌ {A = Rule} (record { head = l; premises = X; justification = literals U }) (record { head = m; premises = Y; justification = literals V })

@@ -1,6 +1,6 @@
 -- Descriptions of how fluents change by actions: their laws, and when they are in range.
 use Rattle.std.specs.Prelude.{ℕ, ◌+◌, ◌*◌, ◌<◌, ◌≤◌, List, [], ◌∷◌, length}
-use Rattle.std.specs.List.{AllByRecursion}
+use Rattle.std.specs.List.{All}
 use Rattle.programs.specs.Literals.{Below}
 use Rattle.sheets.specs.declared.law.Law.{Law}
 use Rattle.sheets.specs.declared.law.Law.TheVariants.{Static, Dynamic}
@@ -38,10 +38,15 @@ StaticInRange f law = (law.head.atom < f) × Below f law.condition
 abbrev pub DynamicInRange : ℕ → ℕ → DynamicLaw → Type 0
 DynamicInRange f e law = (law.action < e) × (law.head.atom < f) × Below f law.condition
 
+-- a law of either kind is in range
+abbrev pub LawInRange : ℕ → ℕ → Law → Type 0
+LawInRange f e (Static law) = StaticInRange f law
+LawInRange f e (Dynamic law) = DynamicInRange f e law
+
 -- some fluent, room in 64 atoms for the fluents at two times and the actions, at most 1,024 laws, each of them in range
 pub record DescriptionFits (d : Description) : Type 0 where
   pub some : 1 ≤ d.fluents
   pub few : 2 * d.fluents + d.actions ≤ 64
   pub short : length d.statics + length d.dynamics ≤ 1024
-  pub statics : AllByRecursion (StaticInRange d.fluents) d.statics
-  pub dynamics : AllByRecursion (DynamicInRange d.fluents d.actions) d.dynamics
+  pub statics : All (StaticInRange d.fluents) d.statics
+  pub dynamics : All (DynamicInRange d.fluents d.actions) d.dynamics

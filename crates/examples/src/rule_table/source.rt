@@ -1,28 +1,16 @@
 // How a table is made of rows, and what it answers as a source.
-ghost use Rattle.std.specs.Prelude.{◌≡◌, ◌<◌, ◌≤◌, map, length, Decides, MatchResult};
-ghost use Rattle.std.specs.List.{AllByRecursion};
-ghost use Rattle.programs.specs.Programs.{RuleFits, ProgramFits, rule_of, rule_at};
+ghost use Rattle.std.specs.Prelude.{◌≡◌, Decides, MatchResult};
+ghost use Rattle.programs.specs.Programs.{ProgramFits};
+ghost use Rattle.programs.specs.Questions.{AnswersRow};
 ghost use Rattle.programs.specs.Refusals.{number};
 ghost use Rattle.programs.proofs.Props.{kept_fits};
 ghost use Rattle.examples.specs.Tables.{table_program};
 
 use crate::rule_table::RuleTable;
-use programs::literal::{Literal, LiteralSet, MAX_ATOMS, is_interpretation};
+use programs::literal::{Literal, LiteralSet, MAX_ATOMS};
 use programs::refusal::Refusal;
 use programs::rule::{ClausalRule, MAX_RULES};
 use programs::source::{ClausalSource, RuleSource};
-
-// Whether every literal of every row is on one of so many atoms.
-fn all_below(atoms: u8, rules: &[ClausalRule]) -> bool
-    ensures { Decides result (AllByRecursion (RuleFits atoms) (map rule_of rules.now)) }
-{
-    for rule in rules {
-        if !rule.is_below(atoms) {
-            return false;
-        }
-    }
-    true
-}
 
 // Whether so many atoms and these rows make a program.
 fn make_program(atoms: u8, rules: &[ClausalRule]) -> bool
@@ -31,7 +19,7 @@ fn make_program(atoms: u8, rules: &[ClausalRule]) -> bool
     if atoms < 1 || atoms > MAX_ATOMS || rules.len() > MAX_RULES {
         return false;
     }
-    all_below(atoms, rules)
+    rules.iter().all(|rule| rule.is_below(atoms))
 }
 
 impl<const N: usize> RuleTable<N> {
@@ -47,15 +35,13 @@ impl<const N: usize> RuleTable<N> {
 
     // Row i.
     fn rule(&self, i: usize) -> Result<ClausalRule, Refusal>
-        ensures { MatchResult result (λ c. (i < length (map rule_of self.now.rules)) × (rule_of c ≡ rule_at (table_program self.now.atoms self.now.rules) i)) (λ e. (length (map rule_of self.now.rules) ≤ i) × (number e ≡ 6)) }
+        ensures { AnswersRow (table_program self.now.atoms self.now.rules) i result }
     {
-        if i >= self.rules.len() {
-            return Err(Refusal::OutOfRange);
-        }
-        Ok(self.rules[i])
+        self.rules.get(i).copied().ok_or(Refusal::OutOfRange)
     }
 }
 
+// One impl for all sources of rows would shut out an impl for references to sources (docs/DECISIONS.md, "Rule sources").
 impl<const N: usize> RuleSource for RuleTable<N> {
     ghost program = { λ s. table_program s.atoms s.rules };
 
@@ -78,16 +64,7 @@ impl<const N: usize> RuleSource for RuleTable<N> {
     }
 
     fn holds_in(&self, i: usize, interpretation: u64) -> Result<bool, Refusal> {
-        let rule = self.rule(i)?;
-        if !is_interpretation(self.atoms, interpretation) {
-            return Err(Refusal::OutOfRange);
-        }
-        Ok(rule.justification.all_true_in(interpretation))
-    }
-
-    // Declined, since a justification is known as a set anyway.
-    fn settled(&self, _: usize, _: LiteralSet) -> Option<bool> {
-        None
+        self.rule(i)?.holds_in(self.atoms, interpretation)
     }
 
     fn as_literals(&self, i: usize) -> Option<LiteralSet> {

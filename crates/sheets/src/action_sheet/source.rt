@@ -1,58 +1,31 @@
 // How an action sheet is made of laws, and what it answers as a rule source.
-ghost use Rattle.std.specs.Prelude.{◌≡◌, ◌+◌, ◌*◌, ◌/◌, ◌%◌, ◌<◌, ◌≤◌, [], map, length, Decides, MatchResult, ◌==◌};
+ghost use Rattle.std.specs.Prelude.{◌≡◌, ◌+◌, ◌*◌, ◌<◌, ◌≤◌, [], map, length, Decides, MatchResult};
 ghost use Rattle.std.specs.List.{range_with_len, flat_map};
 ghost use Rattle.programs.specs.Literals.{Below};
-ghost use Rattle.programs.specs.Programs.{rule_of, rule_at};
+ghost use Rattle.programs.specs.Programs.{rule_of};
+ghost use Rattle.programs.specs.Questions.{AnswersRow};
 ghost use Rattle.programs.specs.Refusals.{number};
-ghost use Rattle.sheets.specs.Actions.{earlier, later, all_later, AllLaterAreTheLaterOnes, both_times, effect, inertia, choice, action_rules, action_program};
+ghost use Rattle.sheets.specs.Actions.{earlier, later, all_later, AllLaterAreTheLaterOnes, both_times, effect, inertia, choice, action_program};
 ghost use Rattle.sheets.specs.Fits.{sheet_fits, program_fits};
-ghost use Rattle.sheets.specs.Laws.{described, StaticInRange, DynamicInRange, DescriptionFits};
+ghost use Rattle.sheets.specs.Laws.{described, LawInRange, DescriptionFits};
 ghost use Rattle.sheets.specs.Sheets.{description};
-ghost use Rattle.sheets.specs.Steps.{with_static, with_dynamic, with_law, LawInRange, rule_in};
+ghost use Rattle.sheets.specs.Steps.{with_law, rule_in};
 
 use crate::action_sheet::{ActionSheet, MAX_LAWS};
-use crate::law::{DynamicLaw, Law, StaticLaw};
-use programs::literal::{Literal, LiteralSet, MAX_ATOMS, is_interpretation};
+use crate::law::Law;
+use arrayvec::ArrayVec;
+use programs::literal::{Literal, LiteralSet, MAX_ATOMS};
 use programs::refusal::Refusal;
 use programs::rule::ClausalRule;
 use programs::source::{ClausalSource, RuleSource};
 
-// The head in a place that no law has taken yet.
-const NO_HEAD: Literal = Literal {
-    atom: 0,
-    negative: false,
-};
-
-// A place that no static law has taken yet.
-const NO_STATIC: StaticLaw = StaticLaw {
-    head: NO_HEAD,
-    condition: LiteralSet::EMPTY,
-};
-
-// A place that no dynamic law has taken yet.
-const NO_DYNAMIC: DynamicLaw = DynamicLaw {
-    action: 0,
-    head: NO_HEAD,
-    condition: LiteralSet::EMPTY,
-};
-
-// Whether there is a fluent, room for all atoms in a word, and room for the laws.
+// Whether there is a fluent, room for all atoms in a word, and room for the laws. The two numbers stay apart, as the public
+// calls take them.
 fn counts_in_range(fluents: u8, actions: u8, laws: usize) -> bool
     ensures { Decides result ((1 ≤ fluents) × (2 * fluents + actions ≤ 64) × (laws ≤ 1024)) }
 {
     let atoms = 2 * usize::from(fluents) + usize::from(actions);
     fluents >= 1 && atoms <= usize::from(MAX_ATOMS) && laws <= MAX_LAWS
-}
-
-// The literals by number: each atom, and after it its negation.
-fn literal_number(i: usize) -> Literal
-    requires { i < 128 }
-    ensures { result ≡ record { atom = i / 2; negative = (i % 2 == 1) } }
-{
-    Literal {
-        atom: (i / 2) as u8,
-        negative: i % 2 == 1,
-    }
 }
 
 impl ActionSheet {
@@ -78,47 +51,23 @@ impl ActionSheet {
         ActionSheet {
             fluents,
             actions,
-            statics: [NO_STATIC; MAX_LAWS],
-            static_count: 0,
-            dynamics: [NO_DYNAMIC; MAX_LAWS],
-            dynamic_count: 0,
+            statics: ArrayVec::new(),
+            dynamics: ArrayVec::new(),
         }
     }
 
     // Adds a law that is in range.
     fn add(&mut self, law: Law) -> Result<(), Refusal>
-        requires { self.old.static_count + self.old.dynamic_count < 1024 }
+        requires { length self.old.statics.items + length self.old.dynamics.items < 1024 }
         ensures { MatchResult result (λ _. description self.new ≡ with_law (description self.old) law) (λ e. (LawInRange self.old.fluents self.old.actions law → ⊥) × (number e ≡ 6)) }
-    {
-        match law {
-            Law::Static(law) => self.add_static(law),
-            Law::Dynamic(law) => self.add_dynamic(law),
-        }
-    }
-
-    // Adds a static law that is in range.
-    fn add_static(&mut self, law: StaticLaw) -> Result<(), Refusal>
-        requires { self.old.static_count + self.old.dynamic_count < 1024 }
-        ensures { MatchResult result (λ _. description self.new ≡ with_static (description self.old) law) (λ e. (StaticInRange self.old.fluents law → ⊥) × (number e ≡ 6)) }
-    {
-        if !law.in_range(self.fluents) {
-            return Err(Refusal::OutOfRange);
-        }
-        self.statics[self.static_count] = law;
-        self.static_count += 1;
-        Ok(())
-    }
-
-    // Adds a dynamic law that is in range.
-    fn add_dynamic(&mut self, law: DynamicLaw) -> Result<(), Refusal>
-        requires { self.old.static_count + self.old.dynamic_count < 1024 }
-        ensures { MatchResult result (λ _. description self.new ≡ with_dynamic (description self.old) law) (λ e. (DynamicInRange self.old.fluents self.old.actions law → ⊥) × (number e ≡ 6)) }
     {
         if !law.in_range(self.fluents, self.actions) {
             return Err(Refusal::OutOfRange);
         }
-        self.dynamics[self.dynamic_count] = law;
-        self.dynamic_count += 1;
+        match law {
+            Law::Static(law) => self.statics.push(law),
+            Law::Dynamic(law) => self.dynamics.push(law),
+        }
         Ok(())
     }
 
@@ -129,7 +78,7 @@ impl ActionSheet {
     {
         Literal {
             atom: literal.atom + (self.fluents + self.actions),
-            negative: literal.negative,
+            ..literal
         }
     }
 
@@ -147,7 +96,7 @@ impl ActionSheet {
 
     // Rule i of the static laws: each law at time 0, then at time 1.
     fn static_rule(&self, i: usize) -> ClausalRule
-        requires { i < 2 * self.now.static_count }
+        requires { i < 2 * length self.now.statics.items }
         ensures { rule_of result ≡ rule_in (flat_map (both_times (description self.now)) (description self.now).statics) i }
     {
         let law = self.statics[i / 2];
@@ -167,15 +116,12 @@ impl ActionSheet {
 
     // Rule i of the dynamic laws: the head at time 1, from the action and the condition at time 0.
     fn effect_rule(&self, i: usize) -> Result<ClausalRule, Refusal>
-        requires { i < self.now.dynamic_count }
+        requires { i < length self.now.dynamics.items }
         ensures { MatchResult result (λ c. rule_of c ≡ rule_in (map (effect (description self.now)) (description self.now).dynamics) i) (λ e. ⊥) }
     {
         let law = self.dynamics[i];
         let head = self.later_literal(law.head);
-        let action = Literal {
-            atom: self.fluents + law.action,
-            negative: false,
-        };
+        let action = Literal::positive(self.fluents + law.action);
         let premises = law.condition.with(action)?;
         Ok(ClausalRule {
             head,
@@ -189,7 +135,7 @@ impl ActionSheet {
         requires { i < 2 * self.now.fluents }
         ensures { MatchResult result (λ c. rule_of c ≡ rule_in (flat_map (inertia (description self.now)) (range_with_len 0 self.now.fluents)) i) (λ e. ⊥) }
     {
-        let literal = literal_number(i);
+        let literal = Literal::numbered(i as u8);
         let head = self.later_literal(literal);
         let premises = LiteralSet::EMPTY.with(literal)?;
         let justification = LiteralSet::EMPTY.with(head)?;
@@ -205,7 +151,7 @@ impl ActionSheet {
         requires { i < 2 * (self.now.fluents + self.now.actions) }
         ensures { MatchResult result (λ c. rule_of c ≡ rule_in (flat_map choice (range_with_len 0 (earlier (description self.now)))) i) (λ e. ⊥) }
     {
-        let literal = literal_number(i);
+        let literal = Literal::numbered(i as u8);
         let justification = LiteralSet::EMPTY.with(literal)?;
         Ok(ClausalRule {
             head: literal,
@@ -216,12 +162,12 @@ impl ActionSheet {
 
     // Rule i of the sheet: static laws, then effects, then inertia, then choices.
     fn rule(&self, i: usize) -> Result<ClausalRule, Refusal>
-        ensures { MatchResult result (λ c. (i < length (action_rules (description self.now))) × (rule_of c ≡ rule_at (action_program (description self.now)) i)) (λ e. (length (action_rules (description self.now)) ≤ i) × (number e ≡ 6)) }
+        ensures { AnswersRow (action_program (description self.now)) i result }
     {
         let fluents = usize::from(self.fluents);
         let actions = usize::from(self.actions);
-        let first_effect = 2 * self.static_count;
-        let first_inertia = first_effect + self.dynamic_count;
+        let first_effect = 2 * self.statics.len();
+        let first_inertia = first_effect + self.dynamics.len();
         let first_choice = first_inertia + 2 * fluents;
         if i < first_effect {
             return Ok(self.static_rule(i));
@@ -239,6 +185,8 @@ impl ActionSheet {
     }
 }
 
+// Each source of rows has these one-line answers. One impl for all such sources would shut out an impl for references to
+// sources (docs/DECISIONS.md, "Rule sources").
 impl RuleSource for ActionSheet {
     ghost program = { λ s. action_program (description s) };
 
@@ -251,7 +199,7 @@ impl RuleSource for ActionSheet {
     fn rule_count(&self) -> usize {
         let fluents = usize::from(self.fluents);
         let actions = usize::from(self.actions);
-        2 * self.static_count + self.dynamic_count + 2 * fluents + 2 * (fluents + actions)
+        2 * self.statics.len() + self.dynamics.len() + 2 * fluents + 2 * (fluents + actions)
     }
 
     fn head(&self, i: usize) -> Result<Literal, Refusal> {
@@ -263,11 +211,7 @@ impl RuleSource for ActionSheet {
     }
 
     fn holds_in(&self, i: usize, interpretation: u64) -> Result<bool, Refusal> {
-        let rule = self.rule(i)?;
-        if !is_interpretation(self.atoms(), interpretation) {
-            return Err(Refusal::OutOfRange);
-        }
-        Ok(rule.justification.all_true_in(interpretation))
+        self.rule(i)?.holds_in(self.atoms(), interpretation)
     }
 
     fn as_literals(&self, i: usize) -> Option<LiteralSet> {

@@ -9,12 +9,14 @@ use Rattle.programs.proofs.closure.closure.Given as goal
 abbrev pub invariant-rounds : goal.invariant-rounds
 invariant-rounds g l =
     let p = g.S.RuleSource.program l.source in
-    Interpretation p.atoms l.interpretation
-    × Marked p l.interpretation (length p.rules) l.marks
-    × (length l.marks ≡ 4096)
-    × ((Y : LiteralSet) → Closed (Reduct p l.interpretation) Y → Subset l.derived Y)
-    × (l.derived.positive < 2 ^ 64)
-    × (l.derived.negative < 2 ^ 64)
+    record {
+      inside : Interpretation p.atoms l.interpretation;
+      marked : Marked p l.interpretation (length p.rules) l.marks.items;
+      whole : length l.marks.items ≡ length p.rules;
+      within : (Y : LiteralSet) → Closed (Reduct p l.interpretation) Y → Subset l.derived Y;
+      positive : l.derived.positive < 2 ^ 64;
+      negative : l.derived.negative < 2 ^ 64;
+    }
 
 -- each round but the last adds a literal, and there are at most 128
 abbrev pub decreases-rounds : goal.decreases-rounds

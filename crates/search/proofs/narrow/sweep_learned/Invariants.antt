@@ -1,7 +1,7 @@
-use Rattle.std.specs.List.{AllByRecursion}
+use Rattle.std.specs.List.{All}
 use Rattle.search.specs.Nogoods.{Avoids}
 use Rattle.search.specs.Trails.{Advanced}
 use Rattle.search.proofs.narrow.sweep_learned.Given as goal
 
-abbrev pub invariant-loop-i : goal.invariant-loop-i
-invariant-loop-i l = Advanced (λ w. AllByRecursion (λ N. Avoids N w) l.learned.sets) l.initial.trail l.trail
+abbrev pub invariant-loop-set : goal.invariant-loop-set
+invariant-loop-set l = Advanced (λ w. All (λ N. Avoids N w) l.learned.sets.items) l.initial.trail l.trail

@@ -2,10 +2,11 @@ use Rattle.std.proofs.lemmas.Bool.{false≢true}
 use Rattle.search.proofs.Picking.{no_literal, other_side}
 use Rattle.search.proofs.picks.pick.Goals as goal
 
-pub returns-in_err-atom : goal.returns-in_err-atom
-returns-in_err-atom c = rw c.from_residual.ensures (no_literal c.args.set c.in_err-atom.ensures)
+pub returns-in_err-highest : goal.returns-in_err-highest
+returns-in_err-highest c = rw c.from_residual.ensures (no_literal c.args.set c.in_err-highest.ensures)
 
 pub returns : goal.returns
 returns c =
-    let found = c.in_ok-atom.ensures in
-    (found.0, other_side c.args.set c.in_ok-atom.atom found.1 (λ h. false≢true (c.if-contains.ensures.1 h)))
+    let found = c.in_ok-highest.ensures in
+    rw (c.complement.ensures, c.positive-literal.ensures)
+    (found.0, other_side c.args.set c.in_ok-highest.field-0 found.1 (λ h. false≢true (c.if-contains.ensures.1 (rw c.positive-literal.ensures h))))

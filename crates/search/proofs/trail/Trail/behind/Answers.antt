@@ -1,6 +1,6 @@
 use Rattle.std.proofs.Common.{◌-◌, ◌*◌, ◌%◌, ◌^◌, inl, arith}
 use Rattle.std.proofs.lemmas.Nat.{or_lt, and_le_l}
-use Rattle.search.proofs.Reasons.{start_part, union_within, reason_within, gathers_more, rest_falls, behind_all}
+use Rattle.search.proofs.Reasons.{start_part, union_within, gathers_more, rest_falls, behind_all}
 use Rattle.search.proofs.trail.Trail.behind.Goals as goal
 
 pub loop-atom-init : goal.loop-atom-init
@@ -18,7 +18,7 @@ loop-atom-preserved c =
     let inv = c.loop-atom.invariant in
     let found = c.in-Some.ensures in (
       omega (arith, and_le_l c.loop-atom.rest (2 ^ 64 - 1 - (1 * 2 ^ a) % 2 ^ 64), inv.0),
-      union_within R _ Q t.start c.union-reason.ensures inv.1 (reason_within t c.requires.0 a found.0),
+      union_within R _ Q t.start c.union-reason.ensures inv.1 (t.within a found.0),
       λ l m. c.union-reason.ensures.left l (inv.2 l m),
       gathers_more _ c.loop-atom.rest a t.reasons R Q inv.0 found.0 c.union-reason.ensures inv.3,
     )
@@ -31,4 +31,4 @@ loop-atom-smaller c =
 pub returns : goal.returns
 returns c =
     let inv = c.loop-atom.invariant in
-    behind_all c.args.self.now c.args.set c.difference-found.result c.difference-reason.result c.loop-atom.reason c.loop-atom.rest c.requires.1 c.difference-found.ensures c.difference-reason.ensures inv.1 inv.2 c.in_default.ensures inv.3
+    behind_all c.args.self.now c.args.set c.difference-found.result c.difference-reason.result c.loop-atom.reason c.loop-atom.rest c.requires c.difference-found.ensures c.difference-reason.ensures inv.1 inv.2 c.in_default.ensures inv.3

@@ -6,6 +6,6 @@ use Rattle.sheets.proofs.action_sheet.ActionSheet.choice_rule.Goals as goal
 pub returns : goal.returns
 returns c =
     let s = c.args.self.now in
-    let literal = c.literal_number-literal.ensures in
+    let literal = c.numbered-literal.ensures in
     same_rule _ _ _ _ _ _ literal refl (c.in_ok-justification.ensures.1 ∙ ap only literal)
     ∙ sym (get_or_ways may_be (s.fluents + s.actions) c.args.i _ c.requires)

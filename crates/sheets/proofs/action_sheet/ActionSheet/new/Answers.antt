@@ -1,9 +1,7 @@
-use Rattle.std.proofs.Common.{length, take, refl, ap, ◌∙◌, subst, arith, length-take, take_all}
+use Rattle.std.proofs.Common.{length, take, refl, ap, ◌∙◌, arith, length-take}
 use Rattle.std.proofs.lemmas.Result.{err_from_is_err_and}
 use Rattle.std.proofs.lemmas.Bool.{false≢true}
-use Rattle.sheets.specs.Laws.{described, DescriptionFits}
-use Rattle.sheets.specs.Fits.{sheet_fits}
-use Rattle.sheets.proofs.Kept.{static_length, dynamic_length, length_by_kind, law_in_range, described_more}
+use Rattle.sheets.proofs.Kept.{length_by_kind, law_in_range, described_more}
 use Rattle.sheets.proofs.action_sheet.ActionSheet.new.Goals as goal
 
 pub returns-then-not-counts_in_range : goal.returns-then-not-counts_in_range
@@ -19,8 +17,6 @@ add-requires c =
     let e = c.loop-law.invariant in
     omega (
       arith,
-      static_length s,
-      dynamic_length s,
       ap (λ d. length d.statics) e,
       ap (λ d. length d.dynamics) e,
       length_by_kind (take i laws),
@@ -41,10 +37,3 @@ pub loop-law-preserved : goal.loop-law-preserved
 loop-law-preserved c =
     c.in_ok-add.ensures
     ∙ described_more _ c.args.fluents c.args.actions c.args.laws.now c.loop-law.law-index _ c.loop-law-test.true c.loop-law.invariant
-
-pub returns : goal.returns
-returns c =
-    let s = c.loop-law.sheet in
-    let laws = c.args.laws.now in
-    let e = c.loop-law.invariant ∙ ap (described c.args.fluents c.args.actions) (take_all c.loop-law.law-index laws c.loop-law-test.false) in
-    (subst DescriptionFits e (sheet_fits s), e)

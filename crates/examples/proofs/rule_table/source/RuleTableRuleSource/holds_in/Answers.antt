@@ -1,8 +1,10 @@
-use Rattle.std.proofs.Common.{refl, inr}
-use Rattle.std.proofs.lemmas.Bool.{false≢true}
-use Rattle.programs.proofs.Bits.{not_interpretation}
+use Rattle.std.proofs.Common.{refl}
+use Rattle.programs.proofs.Rows.{answers_by_row}
+use Rattle.examples.specs.Tables.{table_program}
 use Rattle.examples.proofs.rule_table.source.RuleTableRuleSource.holds_in.Goals as goal
 
-pub returns-then-not-is_interpretation : goal.returns-then-not-is_interpretation
-returns-then-not-is_interpretation g c =
-    (inr (not_interpretation c.args.self.now.atoms c.args.interpretation (λ h. false≢true (c.if-not-is_interpretation.ensures.1 h))), refl)
+pub returns : goal.returns
+returns g c =
+    let s = c.args.self.now in
+    answers_by_row (table_program s.atoms s.rules) c.args.i s.atoms c.args.interpretation _ c.holds_in.result
+    c.in_ok-rule.ensures.0 c.in_ok-rule.ensures.1 refl c.holds_in.ensures

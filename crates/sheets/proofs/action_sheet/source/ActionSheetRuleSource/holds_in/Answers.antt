@@ -1,11 +1,9 @@
-use Rattle.std.proofs.Common.{refl, subst, inr}
-use Rattle.std.proofs.lemmas.Bool.{false≢true}
-use Rattle.programs.specs.Literals.{BitBeyond}
-use Rattle.programs.proofs.Bits.{not_interpretation}
+use Rattle.programs.proofs.Rows.{answers_by_row}
+use Rattle.sheets.specs.Actions.{action_program}
+use Rattle.sheets.specs.Sheets.{description}
 use Rattle.sheets.proofs.action_sheet.source.ActionSheetRuleSource.holds_in.Goals as goal
 
-pub returns-then-not-is_interpretation : goal.returns-then-not-is_interpretation
-returns-then-not-is_interpretation c =
-    let w = c.args.interpretation in
-    let beyond = not_interpretation c.atoms.result w (λ h. false≢true (c.if-not-is_interpretation.ensures.1 h)) in
-    (inr (subst (λ n. BitBeyond n w) c.atoms.ensures beyond), refl)
+pub returns : goal.returns
+returns c =
+    answers_by_row (action_program (description c.args.self.now)) c.args.i c.atoms.result c.args.interpretation _ c.holds_in.result
+    c.in_ok-rule.ensures.0 c.in_ok-rule.ensures.1 c.atoms.ensures c.holds_in.ensures

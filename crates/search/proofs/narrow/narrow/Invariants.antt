@@ -1,6 +1,0 @@
-use Rattle.programs.specs.Programs.{Model}
-use Rattle.search.specs.Trails.{Advanced}
-use Rattle.search.proofs.narrow.narrow.Given as goal
-
-abbrev pub invariant-loop : goal.invariant-loop
-invariant-loop g l = Advanced (Model (g.S.RuleSource.program l.source)) l.initial.trail l.trail

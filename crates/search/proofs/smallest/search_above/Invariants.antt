@@ -1,8 +1,0 @@
-use Rattle.search.specs.Rows.{Learns}
-use Rattle.search.proofs.Parts.{NoneIn}
-use Rattle.search.proofs.smallest.search_above.Given as goal
-
-abbrev pub invariant-loop-atom : goal.invariant-loop-atom
-invariant-loop-atom g l =
-    let p = g.S.RuleSource.program l.source in
-    Learns p l.learned × NoneIn p l.given l.mark l.atom

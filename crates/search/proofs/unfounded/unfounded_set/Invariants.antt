@@ -1,5 +1,0 @@
-use Rattle.programs.specs.Literals.{Subset}
-use Rattle.search.proofs.unfounded.unfounded_set.Given as goal
-
-abbrev pub invariant-loop : goal.invariant-loop
-invariant-loop g l = Subset l.initial.set l.set
