@@ -14,7 +14,7 @@ enum Fluent {
     OnSite,
 }
 
-// "issued if on_site." and "send causes on_site if issued."
+// "issued if on_site." and "send causes on_site if issued." A constant cannot call a function.
 const LAWS: [Law; 2] = [
     Law::Static(StaticLaw {
         head: Literal {

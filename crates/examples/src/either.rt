@@ -1,5 +1,4 @@
-// A rule source that computes its answers: a and b are chosen freely, and c is true exactly where a or b is. Like the other
-// example of a source with formulas it is whole in itself, down to the premises that no rule has.
+// A rule source that computes its answers: a and b are chosen freely, and c is true exactly where a or b is.
 ghost use Rattle.std.specs.Prelude.{◌≡◌, ◌==◌};
 ghost use Rattle.programs.specs.Literals.{bit};
 ghost use Rattle.examples.specs.Eithers.{either_program, either_fits};
@@ -22,7 +21,8 @@ pub fn is_true(atom: u8, interpretation: u64) -> bool
     .contains(Literal::positive(atom))
 }
 
-// One line for each rule, as the program is listed: that is how the example is to be read.
+// One line for each rule, as the program is listed: that is how the example is to be read. That no rule has premises takes
+// two lines here and in `Guarded`; a function for both would be longer.
 impl RuleSource for Either {
     ghost program = { λ _. either_program };
 

@@ -9,17 +9,18 @@ use programs::literal::{Literal, LiteralSet};
 use sheets::law::Law;
 use std::fmt;
 
-// Writes each item, with a joint between every two.
+// Writes each item, with a lead before the first and a joint before every other.
 fn write_joined<W: fmt::Write, I: Iterator<Item: fmt::Display + Drop> + Drop>(
     f: &mut fmt::Formatter<W>,
     mut items: I,
+    lead: &str,
     joint: &str,
 ) -> fmt::Result
     requires can { I.can_next items }
     requires ends { IsFinite (I.remaining items) }
 {
     if let Some(first) = items.next() {
-        write!(f, "{first}")?;
+        write!(f, "{lead}{first}")?;
         for item in items {
             write!(f, "{joint}{item}")?;
         }
@@ -39,7 +40,7 @@ impl fmt::Display for State {
         let fluents = Fluent::ALL
             .into_iter()
             .filter(|fluent| self.0 >> *fluent as u8 & 1 == 1);
-        write_joined(f, fluents, ", ")
+        write_joined(f, fluents, "", ", ")
     }
 }
 
@@ -57,7 +58,7 @@ impl fmt::Display for AllowedStates<'_> {
             .iter()
             .enumerate()
             .filter_map(|(state, is_allowed)| is_allowed.then_some(State(state)));
-        write_joined(f, states, "\n          or: ")
+        write_joined(f, states, "", "\n          or: ")
     }
 }
 
@@ -93,15 +94,11 @@ struct WrittenCondition(LiteralSet);
 
 impl fmt::Display for WrittenCondition {
     fn fmt<W: fmt::Write>(&self, f: &mut fmt::Formatter<W>) -> fmt::Result {
-        if self.0 == LiteralSet::EMPTY {
-            return Ok(());
-        }
         let literals = (0..2 * FLUENT_COUNT)
             .map(Literal::numbered)
             .filter(|literal| self.0.contains(*literal))
             .map(WrittenLiteral);
-        f.write_str(" if ")?;
-        write_joined(f, literals, ", ")
+        write_joined(f, literals, " if ", ", ")
     }
 }
 

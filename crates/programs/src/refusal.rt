@@ -12,7 +12,7 @@ pub enum Refusal {
 }
 
 impl Refusal {
-    // The number by which callers, files and other languages know the refusal: a call of its own, since C needs one.
+    // The number by which callers, files and other languages know the refusal. It is part of the interface, and so is this call.
     pub fn code(self) -> u8
         ensures { result ≡ number self }
     {

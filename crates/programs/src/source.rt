@@ -6,9 +6,9 @@ ghost use Rattle.programs.specs.Questions.{Answers, AnswersIn, AnswersSettled, A
 use crate::literal::{Literal, LiteralSet};
 use crate::refusal::Refusal;
 
-// A list of rules over some atoms. A question changes nothing. What the first five answer is fixed by the program that the
-// source means, and they are refused where they name a rule that is not there or an interpretation of more atoms; the last
-// two may be declined.
+// A list of rules over some atoms. A question changes nothing, and names a rule and an interpretation by their numbers, which
+// any caller has. What the first five answer is fixed by the program that the source means, and they are refused where they
+// name a rule that is not there or an interpretation of more atoms; the last two may be declined.
 pub trait RuleSource {
     // The program that the source means.
     ghost program: { Self → Program };

@@ -47,7 +47,7 @@ impl Learned {
         }
     }
 
-    // Counts a node.
+    // Counts a node. That there was one is said again by each search, of the count that it leaves.
     pub fn count_node(&mut self)
         ensures { (1 ≤ self.new.nodes) × ((p : Program) → Learns p self.old → Learns p self.new) }
     {

@@ -33,7 +33,8 @@ pub fn pick(set: LiteralSet) -> Option<Literal>
     Some(literal.complement())
 }
 
-// The set with one literal more.
+// The set with one literal more. That the atom is below 64 stands in the clause: in the type of a literal it would ask more of
+// all callers.
 pub fn plus(set: LiteralSet, literal: Literal) -> LiteralSet
     requires { literal.atom < 64 }
     ensures { (result ≡ with_literal set literal) × Added set literal result }

@@ -7,7 +7,9 @@ use programs::literal::{LiteralSet, MAX_ATOMS};
 use programs::rule::MAX_RULES;
 use programs::source::RuleSource;
 
-// A source, and each of its rules with a row.
+// A source, and each of its rules with a row. The rules are gone over by `iter`, since of an iterator of `&rules` a proof
+// does not learn what is left. What is known, what was learned and the trail are parameters of its methods, since they
+// change from step to step and the problem does not.
 #[derive(Drop)]
 pub struct Problem<'a, S: RuleSource> {
     pub source: &'a S,
