@@ -14,17 +14,19 @@ use arrayvec::ArrayVec;
 
 // Marks the rules whose justification holds in the interpretation, the reduct. Each justification is asked once, by the
 // number of its rule, as a source is asked. The marks are pushed: `collect` into such a vector answers with an error of memory.
+// The vector is lent, since one that is handed out would be moved, all 4 KB of it.
 fn mark_reduct<S: RuleSource>(
     source: &S,
     interpretation: u64,
-) -> Result<ArrayVec<bool, MAX_RULES>, Refusal>
-    ensures { MatchResult result (λ marks. length marks.items ≡ length (S.program source.now).rules × Marked (S.program source.now) interpretation (length (S.program source.now).rules) marks.items) (λ e. BitBeyond (S.program source.now).atoms interpretation × (number e ≡ 6)) }
+    marks: &mut ArrayVec<bool, MAX_RULES>,
+) -> Result<(), Refusal>
+    ensures { MatchResult result (λ _. length marks.new.items ≡ length (S.program source.now).rules × Marked (S.program source.now) interpretation (length (S.program source.now).rules) marks.new.items) (λ e. BitBeyond (S.program source.now).atoms interpretation × (number e ≡ 6)) }
 {
-    let mut marks = ArrayVec::new();
+    marks.clear();
     for i in 0..source.rule_count() {
         marks.push(source.holds_in(i, interpretation)?);
     }
-    Ok(marks)
+    Ok(())
 }
 
 // The set with the head of rule i, where it has the premises.
@@ -64,7 +66,8 @@ pub fn closure<S: RuleSource>(source: &S, interpretation: u64) -> Result<(u64, u
     if !is_interpretation(source.atoms(), interpretation) {
         return Err(Refusal::OutOfRange);
     }
-    let marks = mark_reduct(source, interpretation)?;
+    let mut marks = ArrayVec::new();
+    mark_reduct(source, interpretation, &mut marks)?;
     let mut derived = LiteralSet::EMPTY;
     'rounds: loop {
         let grown = round(source, &marks, derived)?;

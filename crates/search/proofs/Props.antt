@@ -1,6 +1,5 @@
 -- That a problem is prepared can be shown in one way only, so that it may keep the fact in a ghost field.
-use Rattle.std.proofs.Common.{◌≡◌, ℕ, ◌<◌, List, length, sym, subst}
-use Rattle.std.specs.List.{HoldsAt}
+use Rattle.std.proofs.Common.{◌≡◌, ℕ, List, length}
 use Rattle.std.proofs.Math.Nat.{ℕ_set}
 use mathlib.Core.HLevel.{Π_prop, ×_prop}
 use mathlib.Core.Logic.{∥∥₁_elim}
@@ -11,7 +10,7 @@ use Rattle.programs.specs.declared.literal.LiteralSet.{LiteralSet}
 use Rattle.programs.specs.Programs.{Program, Justification, formula, literals, Holds, rule_at}
 use Rattle.programs.specs.Questions.{HoldsAs}
 use Rattle.search.specs.Nogoods.{Sole}
-use Rattle.search.specs.Rows.{Keeps, Kept, Prepared, RowHolds}
+use Rattle.search.specs.Rows.{Keeps, Kept, KeepsAll, Prepared, RowHolds}
 use Rattle.search.specs.declared.rows.KnownRule.{KnownRule}
 
 holds_prop : (j : Justification) (w : ℕ) → IsProp (Holds j w)
@@ -54,5 +53,5 @@ prepared_prop p rules = λ a b i. record {
 pub kept_prepared : (p : Program) (rules : List KnownRule) → ∥ Prepared p rules ∥₁ → Prepared p rules
 kept_prepared p rules h = ∥∥₁_elim h (prepared_prop p rules) (λ f. f)
 
-pub kept_at : (p : Program) (rules shown : List KnownRule) → ∥ Prepared p rules ∥₁ → shown ≡ rules → (i : ℕ) → i < length shown → HoldsAt (Kept p i) shown i
-kept_at p rules shown h same = subst (λ (xs : List KnownRule). (i : ℕ) → i < length xs → HoldsAt (Kept p i) xs i) (sym same) (kept_prepared p rules h).all
+pub kept_at : (p : Program) (rules : List KnownRule) → ∥ Prepared p rules ∥₁ → KeepsAll p rules
+kept_at p rules h = (kept_prepared p rules h).all

@@ -1,6 +1,6 @@
 -- What the rules say of every model: rows, blocked rules, unfounded sets.
-use Rattle.std.proofs.Common.{◌≡◌, ℕ, ◌+◌, ◌-◌, ◌^◌, ◌<◌, ◌≤◌, true, false, ◌⊎◌, List, [], ◌∷◌, ◌++◌, length, get_or, take, reverse, is_some, IfSome, Some, None, Option, sym, refl, ap, ◌∙◌, subst, inl, inr, arith, pow_pos, pow_mono, below_more, length-append, length-take, MatchOption}
-use Rattle.std.specs.List.{HoldsAt}
+use Rattle.std.proofs.Common.{◌≡◌, ℕ, ◌+◌, ◌-◌, ◌^◌, ◌<◌, true, false, ◌⊎◌, List, [], ◌∷◌, ◌++◌, length, get_or, take, reverse, is_some, IfSome, Some, None, Option, sym, ap, ◌∙◌, subst, inl, inr, arith, pow_pos, pow_mono, below_more, length-append, length-take, MatchOption}
+use Rattle.std.specs.List.{HoldsAt, All}
 use Rattle.std.proofs.lemmas.List.Elements.{All-get_or, Contains-get_or, at_from_Contains}
 use Rattle.std.proofs.lemmas.List.{length-reverse, get_or-take, get_or-reverse, get_or_default, get_or_push, get_or_append_left}
 use Rattle.std.proofs.lemmas.Bool.{true≢false, false≢true, cases_eq}
@@ -12,7 +12,7 @@ use Rattle.programs.specs.Questions.{HoldsAs}
 use Rattle.programs.proofs.Bits.{interpretation_below}
 use Rattle.programs.proofs.Sets.{literals_of_true, some_difference}
 use Rattle.search.specs.Nogoods.{Agrees, Avoids, NoGood}
-use Rattle.search.specs.Rows.{Keeps, Kept, KeepsAll, Body, Opposes, RowOf, RowHolds, Prepared, Supports, Blocks, BlocksAll}
+use Rattle.search.specs.Rows.{Keeps, IsRule, Kept, Body, Opposes, RowOf, RowHolds, Prepared, Supports, Blocks, BlocksAll}
 use Rattle.search.specs.declared.rows.KnownRule.{KnownRule}
 use Rattle.search.proofs.Reasons.{one_true, subset_true, union_true}
 
@@ -27,12 +27,19 @@ among_last {X} P n xs (k, l, h) =
     let same = length-reverse xs in
     (length xs - 1 - k, omega arith, λ d. subst P (get_or-take n (reverse xs) k d (omega arith) ∙ get_or-reverse xs k d (omega arith)) (h d))
 
--- one rule more is kept
-pub keeps_push : (p : Program) (rules : List KnownRule) (k : KnownRule) → KeepsAll p rules → Kept p (length rules) k → KeepsAll p (rules ++ k ∷ [])
-keeps_push p rules k all here i l d =
+-- the rules from n on, the last of them first
+abbrev pub KeepsBack : Program → ℕ → List KnownRule → Type 0
+KeepsBack p n rules = (i : ℕ) → i < length rules → HoldsAt (Kept p (n + length rules - 1 - i)) rules i
+
+-- one rule more is kept, the one before these
+pub keeps_push : (p : Program) (n : ℕ) (rules : List KnownRule) (k : KnownRule) → KeepsBack p (n + 1) rules → Kept p n k → KeepsBack p n (rules ++ k ∷ [])
+keeps_push p n rules k all here i l d =
+    let more = length-append rules (k ∷ []) in
     elim (cases_eq i (length rules)) [
-      | inl e ↦ rw (e, get_or_push rules k d (length rules) refl) here
-      | inr n ↦ let lt : i < length rules = omega (arith, length-append rules (k ∷ [])) in rw (get_or_append_left rules (k ∷ []) d i lt) (all i lt d)
+      | inl e ↦ rw (get_or_push rules k d i (sym e)) (subst (λ m. Kept p m k) (omega (arith, more, e)) here)
+      | inr o ↦
+          let lt : i < length rules = omega (arith, more) in
+          rw (get_or_append_left rules (k ∷ []) d i lt) (subst (λ m. Kept p m (get_or rules i d)) (omega (arith, more, lt)) (all i lt d))
     ]
 
 -- a row whose justification is known as a set, and one whose is not
@@ -79,18 +86,18 @@ module _ (p : Program) (fits : ProgramFits p) where
       ((amounts w m.interpretation).1 (subset_true X B w body.right all))
 
   -- a row: no model has it, with the justification
-  row_refutes : (rules : List KnownRule) (w : ℕ) (k : KnownRule) (B N : LiteralSet) → length rules ≤ length p.rules → KeepsAll p rules → k.number < length p.rules → Keeps p k → Subset B N → ((C : LiteralSet) × Complements k.head C × Subset C N) ⊎ ((j : ℕ) × (j < length rules) × HoldsAt (Opposes k.head B) rules j) → Model p w → AllTrue N w → AllTrue (rule_at p k.number).premises w → Holds (rule_at p k.number).justification w → ⊥
-  row_refutes rules w k B N many all lt keeps sub way m true-all premises holds =
+  row_refutes : (rules : List KnownRule) (w : ℕ) (k : KnownRule) (B N : LiteralSet) → All (IsRule p) rules → k.number < length p.rules → Keeps p k → Subset B N → ((C : LiteralSet) × Complements k.head C × Subset C N) ⊎ ((j : ℕ) × (j < length rules) × HoldsAt (Opposes k.head B) rules j) → Model p w → AllTrue N w → AllTrue (rule_at p k.number).premises w → Holds (rule_at p k.number).justification w → ⊥
+  row_refutes rules w k B N all lt keeps sub way m true-all premises holds =
       let own = (rule_at p k.number).head in
       let head = model_head k.number w lt m premises holds in
       elim way [
         | inl c ↦ one_true own w head (true-all (complement own) (c.2 (complement own) (c.1.has own keeps.head.0)))
         | inr o ↦
             let q = get_or rules o.0 k in
-            let kept = all o.0 o.1 k in
+            let is = All-get_or (IsRule p) rules o.0 k o.1 all in
             let opposes = o.2 k in
-            let other = known_body q.number w q.premises B (omega (arith, kept.number, o.1)) m kept.keeps.premises q.justification kept.keeps.justification opposes.body (subset_true B N w sub true-all) in
-            let same = kept.keeps.head.1 (complement own) (opposes.heads.has own keeps.head.0) in
+            let other = known_body q.number w q.premises B is.0 m is.1.premises q.justification is.1.justification opposes.body (subset_true B N w sub true-all) in
+            let same = is.1.head.1 (complement own) (opposes.heads.has own keeps.head.0) in
             one_true own w head (subst (λ l. TrueIn l w) (sym same) other)
       ]
 
@@ -102,10 +109,10 @@ module _ (p : Program) (fits : ProgramFits p) where
       let whole = subset_true B N w sub all in
       refute w m all (subst (λ Y. AllTrue Y w) same (subset_true P B w body.left whole)) ((amounts w m.interpretation).1 (subset_true X B w body.right whole))
 
-  pub row_holds : (rules : List KnownRule) (k : KnownRule) → length rules ≤ length p.rules → KeepsAll p rules → k.number < length p.rules → Keeps p k → RowOf rules k k.row → RowHolds p k
-  row_holds rules k many all lt keeps row =
+  pub row_holds : (rules : List KnownRule) (k : KnownRule) → All (IsRule p) rules → k.number < length p.rules → Keeps p k → RowOf rules k k.row → RowHolds p k
+  row_holds rules k all lt keeps row =
       row_at k.number k.premises row.0 k.row keeps.premises row.2
-      (λ w m. row_refutes rules w k row.0 k.row many all lt keeps row.2 row.3 m)
+      (λ w m. row_refutes rules w k row.0 k.row all lt keeps row.2 row.3 m)
       k.justification keeps.justification row.1
 
   -- blocked rules

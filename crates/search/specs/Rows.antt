@@ -34,6 +34,10 @@ RowOf rules k N =
 abbrev pub RowHolds : Program → KnownRule → Type 0
 RowHolds p k = MatchOption k.justification ((w : ℕ) → Model p w → Holds (rule_at p k.number).justification w → Avoids k.row w) (λ X. NoGood p k.row)
 
+-- k is one of the rules of p
+abbrev pub IsRule : Program → KnownRule → Type 0
+IsRule p k = (k.number < length p.rules) × Keeps p k
+
 -- k is rule i of p, and has a row
 pub record Kept (p : Program) (i : ℕ) (k : KnownRule) : Type 0 where
   pub number : k.number ≡ i

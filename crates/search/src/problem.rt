@@ -7,14 +7,13 @@ use programs::literal::{LiteralSet, MAX_ATOMS};
 use programs::rule::MAX_RULES;
 use programs::source::RuleSource;
 
-// A source, and each of its rules with a row. The rules are gone over by `iter`, since of an iterator of `&rules` a proof
-// does not learn what is left. What is known, what was learned and the trail are parameters of its methods, since they
-// change from step to step and the problem does not.
+// A source, and each of its rules with a row. What is known, what was learned and the trail are parameters of its methods,
+// since they change from step to step and the problem does not.
 #[derive(Drop)]
 pub struct Problem<'a, S: RuleSource> {
     pub source: &'a S,
-    pub rules: ArrayVec<KnownRule, MAX_RULES>,
-    ghost prepared: { ∥ Prepared (S.program source.now) rules.items ∥₁ },
+    pub rules: &'a [KnownRule],
+    ghost prepared: { ∥ Prepared (S.program source.now) rules.now ∥₁ },
 }
 
 impl<'a, S: RuleSource> Problem<'a, S> {
@@ -23,14 +22,13 @@ impl<'a, S: RuleSource> Problem<'a, S> {
     ghost use Rattle.programs.specs.Programs.{rule_at};
     ghost use Rattle.programs.specs.Questions.{Settles};
 
-    // Asks a source for its rules.
-    pub fn new(source: &'a S) -> Problem<'a, S>
+    // Asks a source for its rules. They are kept in a vector that is lent, since one that lay in the problem would be moved
+    // with it.
+    pub fn new(source: &'a S, rules: &'a mut ArrayVec<KnownRule, MAX_RULES>) -> Problem<'a, S>
         ensures { result.source.now ≡ source.now }
     {
-        Problem {
-            source,
-            rules: ask_rules(source),
-        }
+        ask_rules(source, rules);
+        Problem { source, rules }
     }
 
     // Whether the source says that the known literals settle the justification of a rule, in one way.

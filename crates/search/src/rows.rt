@@ -1,6 +1,7 @@
 // The rules of a source, asked once, and for each of them a set of literals that no model has.
 ghost use Rattle.std.specs.Prelude.{◌≡◌, ◌≤◌, true, length, Decides, MatchResult};
-ghost use Rattle.search.specs.Rows.{Body, Opposes, RowOf, Kept, KeepsAll, Prepared, Supports};
+ghost use Rattle.std.specs.List.{All};
+ghost use Rattle.search.specs.Rows.{Body, Opposes, RowOf, IsRule, Kept, Prepared, Supports};
 
 use crate::picks::plus;
 use arrayvec::ArrayVec;
@@ -9,7 +10,7 @@ use programs::refusal::Refusal;
 use programs::rule::MAX_RULES;
 use programs::source::RuleSource;
 
-// How far back a rule looks for one that opposes it. Where a formula makes a constraint, as two rules for an atom and
+// How far ahead a rule looks for one that opposes it. Where a formula makes a constraint, as two rules for an atom and
 // its negation, and each is written as up to 64 rules, the two that belong together are this far apart.
 const WINDOW: usize = 64;
 
@@ -47,13 +48,14 @@ impl KnownRule {
         self.justification.is_some() && self.head == head.complements() && self.body() == body
     }
 
-    // The row of a rule that follows others: what no model has, since it would have to have the head, or two heads that
-    // contradict each other.
-    fn row_after(&self, earlier: &[KnownRule]) -> LiteralSet
-        ensures { RowOf earlier.now self.now result }
+    // The row of a rule that others follow, the next of them last: what no model has, since it would have to have the
+    // head, or two heads that contradict each other. Of two rules that oppose each other the first has the short row,
+    // which is tried before the long one of the second: what follows from it then follows from the body alone.
+    fn row_before(&self, later: &[KnownRule]) -> LiteralSet
+        ensures { RowOf later.now self.now result }
     {
         let body = self.body();
-        let mut near = earlier.iter().rev().take(WINDOW);
+        let mut near = later.iter().rev().take(WINDOW);
         if self.justification.is_some() && near.any(|other| other.opposes(self.head, body)) {
             return body;
         }
@@ -61,12 +63,16 @@ impl KnownRule {
     }
 }
 
-// The rule that follows those that were asked, if there is one. Its row is found from the rest of it.
-fn next_rule<S: RuleSource>(source: &S, earlier: &[KnownRule]) -> Result<KnownRule, Refusal>
-    requires { KeepsAll (S.program source.now) earlier.now }
-    ensures { MatchResult result (Kept (S.program source.now) (length earlier.now)) (λ e. length (S.program source.now).rules ≤ length earlier.now) }
+// The rule of a number, if there is one, of which the rules that follow it were asked, the next of them last. Its row is
+// found from the rest of it.
+fn make_rule<S: RuleSource>(
+    source: &S,
+    number: usize,
+    later: &[KnownRule],
+) -> Result<KnownRule, Refusal>
+    requires { All (IsRule (S.program source.now)) later.now }
+    ensures { MatchResult result (Kept (S.program source.now) number) (λ e. length (S.program source.now).rules ≤ number) }
 {
-    let number = earlier.len();
     let head = source.head(number)?;
     let premises = source.premises(number)?;
     let rule = KnownRule {
@@ -77,19 +83,21 @@ fn next_rule<S: RuleSource>(source: &S, earlier: &[KnownRule]) -> Result<KnownRu
         row: LiteralSet::EMPTY,
     };
     Ok(KnownRule {
-        row: rule.row_after(earlier),
+        row: rule.row_before(later),
         ..rule
     })
 }
 
-// The rules of a source. Each is asked for once, in order, since its row depends on the rules before it.
-pub fn ask_rules<S: RuleSource>(source: &S) -> ArrayVec<KnownRule, MAX_RULES>
-    ensures { Prepared (S.program source.now) result.items }
+// Puts the rules of a source into a vector, in place of what it has. Each is asked for once, from the last to the first,
+// since its row depends on the rules that follow it. The vector is lent, since one that is handed out would be moved, all
+// 320 KB of it.
+pub fn ask_rules<S: RuleSource>(source: &S, rules: &mut ArrayVec<KnownRule, MAX_RULES>)
+    ensures { Prepared (S.program source.now) rules.new.items }
 {
-    let mut rules = ArrayVec::new();
-    for _ in 0..source.rule_count() {
-        let rule = next_rule(source, &rules).unwrap();
+    rules.clear();
+    for number in (0..source.rule_count()).rev() {
+        let rule = make_rule(source, number, rules).unwrap();
         rules.push(rule);
     }
-    rules
+    rules.reverse();
 }

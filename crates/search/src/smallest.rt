@@ -12,6 +12,7 @@ use crate::learned::Learned;
 use crate::picks::{agrees, highest, plus};
 use crate::problem::Problem;
 use crate::trail::Trail;
+use arrayvec::ArrayVec;
 use programs::closure::check;
 use programs::literal::{Literal, LiteralSet};
 use programs::refusal::Refusal;
@@ -130,7 +131,8 @@ pub fn smallest_above_with<S: RuleSource>(
     if !given.is_below(source.atoms()) {
         return Err(Refusal::OutOfRange);
     }
-    let problem = Problem::new(source);
+    let mut rules = ArrayVec::new();
+    let problem = Problem::new(source, &mut rules);
     let mut learned = Learned::new();
     let model = match mark {
         Some(mark) => problem.search_above(&mut learned, given, mark),

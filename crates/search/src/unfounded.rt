@@ -129,7 +129,7 @@ impl<'a, S: RuleSource> Problem<'a, S> {
 
     // Known literals because of which no rule derives a literal of the set from outside it, if there are such.
     fn block_all(&self, known: LiteralSet, set: LiteralSet) -> Option<LiteralSet>
-        ensures { IfSome result (λ B. Subset B known × BlocksAll (S.program self.now.source.now) self.now.rules.items set (length self.now.rules.items) B) }
+        ensures { IfSome result (λ B. Subset B known × BlocksAll (S.program self.now.source.now) self.now.rules.now set (length self.now.rules.now) B) }
     {
         let mut gathered = LiteralSet::EMPTY;
         for rule in self.rules.iter() {

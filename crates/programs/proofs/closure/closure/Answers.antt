@@ -10,8 +10,8 @@ use Rattle.programs.proofs.closure.closure.Goals as goal
 pub rounds-init : goal.rounds-init
 rounds-init g c = record {
   inside = subst (λ n. Interpretation n c.args.interpretation) c.atoms.ensures (c.if-not-is_interpretation.ensures.decides.0 refl);
-  marked = c.in_ok-marks.ensures.1;
-  whole = c.in_ok-marks.ensures.0;
+  marked = c.in_ok-mark_reduct.ensures.1;
+  whole = c.in_ok-mark_reduct.ensures.0;
   within = λ Y _. empty_subset Y;
   positive = omega arith;
   negative = omega arith;

@@ -1,6 +1,8 @@
-use Rattle.std.proofs.Common.{◌≡◌, length}
-use Rattle.search.specs.Rows.{KeepsAll}
+use Rattle.std.proofs.Common.{◌≡◌, ◌+◌, length}
+use Rattle.search.proofs.Rules.{KeepsBack}
 use Rattle.search.proofs.rows.ask_rules.Given as goal
 
-abbrev pub invariant-loop : goal.invariant-loop
-invariant-loop g l = (length l.rules.items ≡ l.counter) × KeepsAll (g.S.RuleSource.program l.source) l.rules.items
+abbrev pub invariant-loop-number : goal.invariant-loop-number
+invariant-loop-number g l =
+    let p = g.S.RuleSource.program l.source in
+    (l.number + length l.rules.items ≡ length p.rules) × KeepsBack p l.number l.rules.items

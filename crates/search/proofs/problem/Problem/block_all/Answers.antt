@@ -13,14 +13,14 @@ loop-rule-init g c = (empty_subset c.args.known, λ i h. absurd (omega arith))
 pub block-requires : goal.block-requires
 block-requires g c =
     let p = g.S.RuleSource.program c.args.self.now.source.now in
-    let rules = c.deref-rule-items.result.now in
-    ((kept_at p c.args.self.now.rules.items rules c.args.self.now.prepared c.deref-rule-items.ensures.0 c.loop-rule.rule-index (omega arith) _).keeps, c.loop-rule.invariant.0)
+    let rules = c.args.self.now.rules.now in
+    ((kept_at p rules c.args.self.now.prepared c.loop-rule.rule-index (omega arith) _).keeps, c.loop-rule.invariant.0)
 
 pub loop-rule-preserved : goal.loop-rule-preserved
 loop-rule-preserved g c =
     let p = g.S.RuleSource.program c.args.self.now.source.now in
     let f = g.met.S.RuleSource.fits c.args.self.now.source.now in
-    let rules = c.deref-rule-items.result.now in
+    let rules = c.args.self.now.rules.now in
     let X = c.args.set in
     let i = c.loop-rule.rule-index in
     let G = c.loop-rule.gathered in

@@ -9,7 +9,7 @@ pub returns : goal.returns
 returns g c =
     let p = g.S.RuleSource.program c.args.self.now.source.now in
     let f = g.met.S.RuleSource.fits c.args.self.now.source.now in
-    let rules = c.args.self.now.rules.items in
+    let rules = c.args.self.now.rules.now in
     let l = c.args.literal in
     let X = c.unfounded_set-set.result in
     let B = c.in-Some.blockers in

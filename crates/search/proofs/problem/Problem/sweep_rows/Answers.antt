@@ -8,7 +8,7 @@ pub step-requires : goal.step-requires
 step-requires g c =
     let p = g.S.RuleSource.program c.args.self.now.source.now in
     let x = c.args.self.now in
-    (kept_at p x.rules.items c.deref-rule-items.result.now x.prepared c.deref-rule-items.ensures.0 c.loop-rule.rule-index (omega arith) _).holds
+    (kept_at p x.rules.now x.prepared c.loop-rule.rule-index (omega arith) _).holds
 
 pub returns-in_err-grew : goal.returns-in_err-grew
 returns-in_err-grew g c =
